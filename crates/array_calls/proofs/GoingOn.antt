@@ -16,14 +16,16 @@ use Rattle.pop_model.proofs.CycleFamily.{cycles_extremal}
 use Rattle.graph_read.specs.Graphs.{GraphOf, IsVertex}
 use Rattle.cycle_popping.specs.Trees.{heads_of_tree}
 use Rattle.confluence_core.specs.declared.end.End.{End}
-use Rattle.pop_batch.specs.Parts.{IsEndFrom, IsPartEnd, IsPartStop, pops_with}
+use Rattle.pop_batch.specs.Parts.{IsEndFrom, IsPartEnd, IsPartStop, pops_with, start_at}
 use Rattle.pop_batch.proofs.StopsKeepEnd.{stops_keep_end}
 use Rattle.pop_batch.proofs.StoppedRuns.{end_at}
 use Rattle.array_calls.specs.Draws.{given}
 use Rattle.array_calls.specs.Rows.{HasRow}
 use Rattle.array_calls.specs.Trees.{AreTreesOf, IsTreeRow, IsTreeStop, trees_under, used, variable_at, without_root}
-use Rattle.array_calls.specs.Values.{AreOfPairs, IsValueRow, IsValueStop, number_at}
-use Rattle.array_calls.specs.Laws.{TreeRowGoesOn, ValueRowGoesOn, from_at, row_at, with_pops}
+use Rattle.array_calls.specs.Rounded.{IsRoundedEnd}
+use Rattle.array_calls.specs.Values.{AreOfPairs, Ends, IsRow, number_at}
+use Rattle.array_calls.specs.Laws.{RoundRowGoesOn, TreeRowGoesOn, ValueRowGoesOn, from_at, row_at, with_pops}
+use Rattle.array_calls.proofs.RoundParts.{rounds_gone_on}
 use Rattle.array_calls.proofs.TreeParts.{have_cursors}
 use Rattle.array_calls.proofs.ValueRows.{have_values}
 
@@ -168,6 +170,26 @@ tree_row_goes_on key height g root first from j useds counts parents' edges' use
       stuck = counted.1 ∙ row.stuck;
     }
 
+-- so is the row of a sample that went on from where it stopped
+gone_row : (IsItsEnd : Ends) (n first : ℕ) (from : List ℕ) (j : ℕ) (more : List ℕ) (here : End)
+    (counts values' useds' counts' : List ℕ) → 1 < length counts' → get_or counts (2 * j) 0 ≡ here.pops
+    → (row : IsRow IsItsEnd n (first + j) more 0 values' useds' counts')
+    → IsItsEnd (first + j) (given from j) (record row.end { pops = here.pops + row.end.pops })
+    → IsRow IsItsEnd n (first + j) (from_at from j) 0 values' useds' (with_pops (get_or counts (2 * j) 0) counts')
+gone_row IsItsEnd n first from j more here counts values' useds' counts' some pops row whole =
+    let counted = counts_with (get_or counts (2 * j) 0) counts' some in
+    let pops' = row.pops in
+    let end : End = record row.end { pops = here.pops + row.end.pops } in
+    record {
+      end = end;
+      of_sample = subst (λ f. IsItsEnd (first + j + 0) f end) (sym (from_given from j))
+          (subst (λ m. IsItsEnd m (given from j) end) (omega arith) whole);
+      has_values = row.has_values;
+      has_used = row.has_used;
+      pops = counted.0 ∙ omega (arith, pops, pops');
+      stuck = counted.1 ∙ row.stuck;
+    }
+
 pub value_row_goes_on : ValueRowGoesOn
 value_row_goes_on i n first from j useds counts values' useds' counts' extremal pairs some stop row =
     let number = first + j in
@@ -177,18 +199,25 @@ value_row_goes_on i n first from j useds counts values' useds' counts' extremal 
     let more = row_at (j * n) n useds in
     let rest : IsPartEnd i number (given more 0) row.end =
     subst (λ m. IsPartEnd i m (given more 0) row.end) (omega arith) row.of_sample in
-    let whole = gone_on i number (given from j) here row.end more extremal back stop.of_sample rest in
-    let counted = counts_with (get_or counts (2 * j) 0) counts' some in
-    let pops = stop.pops in
-    let pops' = row.pops in
-    record {
-      end = record row.end { pops = here.pops + row.end.pops };
-      of_sample = subst (λ f. IsPartEnd i (number + 0) f (record row.end { pops = here.pops + row.end.pops }))
-          (sym (from_given from j))
-          (subst (λ m. IsPartEnd i m (given from j) (record row.end { pops = here.pops + row.end.pops })) (omega arith)
-          whole);
-      has_values = row.has_values;
-      has_used = row.has_used;
-      pops = counted.0 ∙ omega (arith, pops, pops');
-      stuck = counted.1 ∙ row.stuck;
-    }
+    gone_row (IsPartEnd i) n first from j more here counts values' useds' counts' some stop.pops row
+    (gone_on i number (given from j) here row.end more extremal back stop.of_sample rest)
+
+-- the cursors at which a call goes on from such a row
+begins_at : (i : Instance) (c more : List ℕ) → variables_of i.stacks ≡ length c → more ≡ c
+    → start_at i (given more 0) ≡ c
+begins_at i c [] count are = no_start i c count are
+begins_at i c (k ∷ more) count are = are
+
+pub round_row_goes_on : RoundRowGoesOn
+round_row_goes_on i n first from j useds counts values' useds' counts' pairs some stop row =
+    let number = first + j in
+    let here = stop.stop in
+    let over = stop.of_sample.over in
+    let has = have_values i n number here pairs over in
+    let back = row_back (j * n) n here.cursors useds has.0 stop.has_used in
+    let more = row_at (j * n) n useds in
+    let begins = begins_at (instance_for number i) here.cursors more over.count back in
+    let rest : IsRoundedEnd i number (given more 0) row.end =
+    subst (λ m. IsRoundedEnd i m (given more 0) row.end) (omega arith) row.of_sample in
+    gone_row (IsRoundedEnd i) n first from j more here counts values' useds' counts' some stop.pops row
+    (rounds_gone_on i number (given from j) (given more 0) here row.end begins stop.of_sample rest)

@@ -5,5 +5,7 @@ pub mod TreeParts
 pub mod TreeRows
 pub mod ValueRows
 pub mod GoingOn
-pub mod RoundRows
+pub mod PairValues
+pub mod RoundParts
+pub mod RowParts
 pub mod FormulaCarrying

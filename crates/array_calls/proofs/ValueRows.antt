@@ -9,19 +9,19 @@ use Rattle.pop_model.specs.Stacks.{StackTable, height_of, stacks_for, value_at, 
 use Rattle.pop_model.specs.Instances.{Instance}
 use Rattle.confluence_core.specs.declared.end.End.{End}
 use Rattle.confluence_core.specs.Runs.{IsEndOver}
-use Rattle.pop_batch.specs.Parts.{CanStart, IsPartEnd, IsPartStop}
+use Rattle.pop_batch.specs.Parts.{CanStart}
 use Rattle.array_calls.specs.Rows.{PutsRow, PutsWanted, StaysFrom}
 use Rattle.array_calls.specs.Draws.{AreWithinBudget, given, less, unlimited}
 use Rattle.array_calls.specs.Trees.{FitFrom, FitsWanted}
-use Rattle.array_calls.specs.Values.{AreOfPairs, AreValueRows, EndsValues, IsValueRow, StopsAtValues, ValueArrays, number_at, pairs_under, value_arrays}
+use Rattle.array_calls.specs.Values.{AreOfPairs, AreRows, Ends, EndsRows, IsRow, StopsAtRow, ValueArrays, number_at, value_arrays}
 use Rattle.array_calls.proofs.Budgets.{Remains, budget_spent, remains_all, remains_less, within_budget}
 use Rattle.array_calls.proofs.PutRows.{counts_kept, counts_put, counts_stay, row_kept, stays_all, stays_behind, wanted_kept, wanted_row, wanted_size, wanted_stays}
 use Rattle.array_calls.proofs.TreeRows.{kept_wanted, row_before}
 
 -- the rows before here are at their ends, nothing from here on was touched, and so much of the budget is left
-pub record ValuesStand (i : Instance) (n first : ℕ) (from : List ℕ) (budget count j left : ℕ) (old : ValueArrays)
+pub record ValuesStand (IsItsEnd : Ends) (n first : ℕ) (from : List ℕ) (budget count j left : ℕ) (old : ValueArrays)
     (values useds counts : List ℕ) : Type 0 where
-  pub rows : AreValueRows i n first from j values useds counts
+  pub rows : AreRows IsItsEnd n first from j values useds counts
   pub values_size : length values ≡ count * n
   pub useds_fit : FitsWanted n count useds
   pub values_stay : StaysFrom (j * n) old.values values
@@ -30,10 +30,10 @@ pub record ValuesStand (i : Instance) (n first : ℕ) (from : List ℕ) (budget 
   pub remains : Remains budget left j counts
 
 -- at first none is
-pub values_none : (i : Instance) (n first : ℕ) (from : List ℕ) (budget count : ℕ) (values useds counts : List ℕ)
+pub values_none : (IsItsEnd : Ends) (n first : ℕ) (from : List ℕ) (budget count : ℕ) (values useds counts : List ℕ)
     → budget ≤ unlimited → length values ≡ count * n → FitsWanted n count useds
-    → ValuesStand i n first from budget count 0 budget (value_arrays values useds counts) values useds counts
-values_none i n first from budget count values useds counts most size fits = record {
+    → ValuesStand IsItsEnd n first from budget count 0 budget (value_arrays values useds counts) values useds counts
+values_none IsItsEnd n first from budget count values useds counts most size fits = record {
   rows = λ j less. absurd (omega (arith, less));
   values_size = size;
   useds_fit = fits;
@@ -77,12 +77,12 @@ pairs_can_start i n height (k ∷ from) count high fits =
     )
 
 -- a row stays where one behind it is put
-kept_row : (i : Instance) (n first : ℕ) (from : List ℕ) (j k pops stuck : ℕ)
+kept_row : (IsItsEnd : Ends) (n first : ℕ) (from : List ℕ) (j k pops stuck : ℕ)
     (values useds counts values' useds' counts' : List ℕ) (numbers numbers' : ℕ → ℕ) → k < j
     → PutsRow (j * n) n numbers values values' → PutsWanted (j * n) n numbers' useds useds'
-    → counts' ≡ set (set counts (2 * j) pops) (2 * j + 1) stuck → IsValueRow i n first from k values useds counts
-    → IsValueRow i n first from k values' useds' counts'
-kept_row i n first from j k pops stuck values useds counts values' useds' counts' numbers numbers' before puts puts_useds
+    → counts' ≡ set (set counts (2 * j) pops) (2 * j + 1) stuck → IsRow IsItsEnd n first from k values useds counts
+    → IsRow IsItsEnd n first from k values' useds' counts'
+kept_row IsItsEnd n first from j k pops stuck values useds counts values' useds' counts' numbers numbers' before puts puts_useds
     are row =
     let low : k * n + n ≤ j * n = row_before k j n before in
     record {
@@ -97,21 +97,21 @@ kept_row i n first from j k pops stuck values useds counts values' useds' counts
     }
 
 -- with a row more
-pub values_more : (i : Instance) (n first : ℕ) (from : List ℕ) (budget count j left : ℕ) (end : End)
+pub values_more : (IsItsEnd : Ends) (n first : ℕ) (from : List ℕ) (budget count j left : ℕ) (end : End)
     (old : ValueArrays) (values useds counts values' useds' counts' : List ℕ)
-    → IsPartEnd i (first + j) (given from j) end → end.pops ≤ left → 2 * j + 1 < length counts
+    → IsItsEnd (first + j) (given from j) end → end.pops ≤ left → 2 * j + 1 < length counts
     → PutsRow (j * n) n (number_at end.values) values values'
     → PutsWanted (j * n) n (number_at end.cursors) useds useds'
     → counts' ≡ set (set counts (2 * j) end.pops) (2 * j + 1) (length end.stuck)
-    → ValuesStand i n first from budget count j left old values useds counts
-    → ValuesStand i n first from budget count (j + 1) (less left end.pops) old values' useds' counts'
-values_more i n first from budget count j left end old values useds counts values' useds' counts' of most within puts
+    → ValuesStand IsItsEnd n first from budget count j left old values useds counts
+    → ValuesStand IsItsEnd n first from budget count (j + 1) (less left end.pops) old values' useds' counts'
+values_more IsItsEnd n first from budget count j left end old values useds counts values' useds' counts' of most within puts
     puts_useds are stand =
     let stuck = length end.stuck in
     let useds_is = wanted_size (j * n) n (number_at end.cursors) useds useds' puts_useds in
     let next : j * n + n ≤ (j + 1) * n = omega (arith, add-mul j 1 n) in
     let put = counts_put j end.pops stuck counts counts' within are in
-    let here : IsValueRow i n first from j values' useds' counts' = record {
+    let here : IsRow IsItsEnd n first from j values' useds' counts' = record {
       end = end;
       of_sample = of;
       has_values = puts.here;
@@ -121,10 +121,10 @@ values_more i n first from budget count j left end old values useds counts value
     } in
     record {
       rows = λ k less. elim (cases_eq k j) [
-        | inl same ↦ subst (λ m. IsValueRow i n first from m values' useds' counts') (sym same) here
+        | inl same ↦ subst (λ m. IsRow IsItsEnd n first from m values' useds' counts') (sym same) here
         | inr other ↦
             let before : k < j = omega (arith, less, other) in
-            kept_row i n first from j k end.pops stuck values useds counts values' useds' counts'
+            kept_row IsItsEnd n first from j k end.pops stuck values useds counts values' useds' counts'
             (number_at end.values) (number_at end.cursors) before puts puts_useds are (stand.rows k before)
       ];
       values_size = puts.size ∙ stand.values_size;
@@ -138,24 +138,24 @@ values_more i n first from budget count j left end old values useds counts value
     }
 
 -- all rows are at their ends
-pub values_end : (i : Instance) (n first : ℕ) (from : List ℕ) (budget count j left : ℕ) (old : ValueArrays)
+pub values_end : (IsItsEnd : Ends) (n first : ℕ) (from : List ℕ) (budget count j left : ℕ) (old : ValueArrays)
     (values useds counts : List ℕ) → j ≡ count
-    → ValuesStand i n first from budget count j left old values useds counts
-    → EndsValues i n first from budget count (value_arrays values useds counts)
-values_end i n first from budget count j left old values useds counts all stand = record {
-  rows = subst (λ m. AreValueRows i n first from m values useds counts) all stand.rows;
+    → ValuesStand IsItsEnd n first from budget count j left old values useds counts
+    → EndsRows IsItsEnd n first from budget count (value_arrays values useds counts)
+values_end IsItsEnd n first from budget count j left old values useds counts all stand = record {
+  rows = subst (λ m. AreRows IsItsEnd n first from m values useds counts) all stand.rows;
   within = subst (λ m. AreWithinBudget budget m counts) all (within_budget budget left j counts stand.remains);
 }
 
 -- or the call stopped at one
-pub values_stop : (i : Instance) (n first : ℕ) (from : List ℕ) (budget count j left : ℕ) (stop : End)
+pub values_stop : (IsItsEnd IsItsStop : Ends) (n first : ℕ) (from : List ℕ) (budget count j left : ℕ) (stop : End)
     (old : ValueArrays) (values useds counts useds' counts' : List ℕ) → j < count
-    → IsPartStop i (first + j) (given from j) stop → stop.pops ≡ left → stop.pops < 2 ^ 63 → 2 * j + 1 < length counts
+    → IsItsStop (first + j) (given from j) stop → stop.pops ≡ left → stop.pops < 2 ^ 63 → 2 * j + 1 < length counts
     → PutsRow (j * n) n (number_at stop.cursors) useds useds'
     → counts' ≡ set (set counts (2 * j) stop.pops) (2 * j + 1) (length stop.stuck)
-    → ValuesStand i n first from budget count j left old values useds counts
-    → StopsAtValues i n first from budget count old (value_arrays values useds' counts') j
-values_stop i n first from budget count j left stop old values useds counts useds' counts' below of spent few within
+    → ValuesStand IsItsEnd n first from budget count j left old values useds counts
+    → StopsAtRow IsItsEnd IsItsStop n first from budget count old (value_arrays values useds' counts') j
+values_stop IsItsEnd IsItsStop n first from budget count j left stop old values useds counts useds' counts' below of spent few within
     puts are stand =
     let stuck = length stop.stuck in
     let next : j * n + n ≤ (j + 1) * n = omega (arith, add-mul j 1 n) in

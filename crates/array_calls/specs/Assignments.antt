@@ -1,8 +1,8 @@
 -- Assignments of the formula in an array of literals.
-use Rattle.std.specs.Prelude.{◌≡◌, ◌⊎◌, ℕ, ◌+◌, ◌*◌, ◌<◌, ℤ, List, length, slice_index, Option}
+use Rattle.std.specs.Prelude.{◌≡◌, ◌⊎◌, ℕ, ℤ, List, Option}
 use Rattle.pop_model.specs.Popping.{Cube}
 use Rattle.pop_model.specs.Extremal.{IsExtremal}
-use Rattle.pop_model.specs.Instances.{Instance, instance_for}
+use Rattle.pop_model.specs.Instances.{Instance}
 use Rattle.pop_model.specs.Places.{IsLeastPair}
 use Rattle.dimacs_read.specs.declared.literals.LiteralFault.{LiteralFault}
 use Rattle.dimacs_read.specs.declared.literals.LiteralFault.TheVariants.{OutOfMemory as LiteralMemory}
@@ -10,12 +10,10 @@ use Rattle.dimacs_read.specs.Cnf.{Cnf}
 use Rattle.dimacs_read.specs.Falsifying.{AreEventsOf}
 use Rattle.dimacs_read.specs.Literals.{AreClauses, IsLiteralFault, cnf_in}
 use Rattle.extremal_check.specs.Clashes.{AreClashing}
-use Rattle.prs_rounds.specs.declared.round_end.RoundEnd.{RoundEnd}
-use Rattle.prs_rounds.specs.Rounds.{LeavesEnd}
 use Rattle.array_calls.specs.declared.formula_refusal.FormulaRefusal.{FormulaRefusal}
 use Rattle.array_calls.specs.declared.formula_refusal.FormulaRefusal.TheVariants.{NoFormula, Clash, OutOfMemory}
-use Rattle.array_calls.specs.Rows.{HasRow, HasWanted}
-use Rattle.array_calls.specs.Values.{LeavesValues, ValueArrays, number_at, pairs_under}
+use Rattle.array_calls.specs.Rounded.{LeavesRounds}
+use Rattle.array_calls.specs.Values.{LeavesValues, ValueArrays, pairs_under}
 
 -- the events of a formula, under a key and a height
 pub record AreEventsUnder (key : List ℕ) (height : ℕ) (f : Cnf) (i : Instance) : Type 0 where
@@ -31,27 +29,12 @@ pub record LeavesAssignments (key : List ℕ) (height : ℕ) (f : Cnf) (first : 
   pub extremal : IsExtremal instance.family
   pub rows : LeavesValues instance f.variables first from budget count old new stopped
 
--- Row j of the arrays has the values and the cursors at the end of the run by rounds on the sample under the number
--- first + j, with the number of rounds and that of the events that still occur, which is 0 of a sample.
-pub record IsRoundRow (i : Instance) (n first j : ℕ) (values useds counts : List ℕ) : Type 0 where
-  pub end : RoundEnd
-  pub of_sample : LeavesEnd (instance_for (first + j) i) end
-  pub has_values : HasRow (j * n) n (number_at end.values.items) values
-  pub has_used : HasWanted (j * n) n (number_at end.cursors) useds
-  pub rounds : slice_index counts (2 * j) ≡ end.rounds
-  pub stuck : slice_index counts (2 * j + 1) ≡ length end.stuck
-
--- each row has such an end, of so many
-abbrev pub AreRoundRows : Instance → ℕ → ℕ → ℕ → List ℕ → List ℕ → List ℕ → Type 0
-AreRoundRows i n first count values useds counts =
-    (j : ℕ) → j < count → IsRoundRow i n first j values useds counts
-
--- each row, of so many, has the end of a sample of the formula's assignments, by rounds
-pub record AreRoundedRows (key : List ℕ) (height : ℕ) (f : Cnf) (first count : ℕ)
-    (values useds counts : List ℕ) : Type 0 where
+-- what a call by rounds leaves that stopped at a row, or at none
+pub record LeavesRounded (key : List ℕ) (height : ℕ) (f : Cnf) (first : ℕ) (from : List ℕ) (budget count : ℕ)
+    (old new : ValueArrays) (stopped : Option ℕ) : Type 0 where
   pub instance : Instance
   pub events : AreEventsUnder key height f instance
-  pub rows : AreRoundRows instance f.variables first count values useds counts
+  pub rows : LeavesRounds instance f.variables first from budget count old new stopped
 
 -- a fault of literals as an error
 abbrev pub unformed : LiteralFault → FormulaRefusal

@@ -5,6 +5,7 @@ use Rattle.pop_model.specs.Instances.{Instance}
 use Rattle.pop_model.specs.Extremal.{IsExtremal}
 use Rattle.graph_read.specs.Graphs.{GraphOf, IsVertex}
 use Rattle.array_calls.specs.Trees.{IsTreeRow, IsTreeStop, trees_under, without_root}
+use Rattle.array_calls.specs.Rounded.{IsRoundRow, IsRoundStop}
 use Rattle.array_calls.specs.Values.{AreOfPairs, IsValueRow, IsValueStop}
 
 -- a row of n numbers
@@ -38,3 +39,11 @@ ValueRowGoesOn = (i : Instance) (n first : ℕ) (from : List ℕ) (j : ℕ)
     → 1 < length counts' → IsValueStop i n first from j useds counts
     → IsValueRow i n (first + j) (row_at (j * n) n useds) 0 values' useds' counts'
     → IsValueRow i n (first + j) (from_at from j) 0 values' useds' (with_pops (slice_index counts (2 * j)) counts')
+
+-- and with one by rounds, whatever the events
+abbrev pub RoundRowGoesOn : Type 0
+RoundRowGoesOn = (i : Instance) (n first : ℕ) (from : List ℕ) (j : ℕ)
+    (useds counts values' useds' counts' : List ℕ) → AreOfPairs n i.stacks
+    → 1 < length counts' → IsRoundStop i n first from j useds counts
+    → IsRoundRow i n (first + j) (row_at (j * n) n useds) 0 values' useds' counts'
+    → IsRoundRow i n (first + j) (from_at from j) 0 values' useds' (with_pops (slice_index counts (2 * j)) counts')

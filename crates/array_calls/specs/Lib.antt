@@ -3,5 +3,8 @@ pub mod Draws
 pub mod Trees
 pub mod Refused
 pub mod Values
+pub mod Rounded
+pub mod KeptEnds
+pub mod RowSamples
 pub mod Laws
 pub mod Assignments

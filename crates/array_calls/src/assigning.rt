@@ -18,6 +18,7 @@ use crate::draw::Draw;
 use crate::formula_refusal::FormulaRefusal;
 use crate::orienting::pair_stacks;
 use crate::outcome::Outcome;
+use crate::row_samples::RowSamples;
 use crate::value_rows::put_value_samples;
 use dimacs_read::{Formula, formula_of_literals};
 use extremal_check::{Verdict, check};
@@ -125,7 +126,7 @@ pub fn assignments(
     let stopped = put_value_samples(
         alloc,
         asked.variables,
-        &samples,
+        &RowSamples::ByPopping(samples),
         draw.first,
         draw.from,
         draw.budget,

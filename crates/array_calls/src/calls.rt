@@ -114,7 +114,7 @@ fn put_end(
     put_parents(ends, root, &end.values, parents, at);
     put_wanted_edges(ends, incidence, root, &end.values, edges, at);
     put_wanted_used(ends, root, &end.cursors, useds, at);
-    put_counts(end, j, counts);
+    put_counts(end.pops, end.stuck.len(), j, counts);
 }
 
 // Stores the state at which a sample was stopped in its row of cursors and of counts.
@@ -137,7 +137,7 @@ fn put_stop(
 {
     let vertices = ends.graph().vertices();
     put_used(vertices, root, &stop.cursors, useds, j * vertices as usize);
-    put_counts(stop, j, counts);
+    put_counts(stop.pops, stop.stuck.len(), j, counts);
 }
 
 // The cursors of a tree's variables, from those of all vertices.

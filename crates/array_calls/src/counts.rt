@@ -3,7 +3,6 @@ ghost use Rattle.std.specs.Prelude.{◌≡◌, ◌↔◌, ◌+◌, ◌*◌, ◌/
 ghost use Rattle.array_calls.specs.Draws.{AreSamples, IsOutcome, given, less, stopped_at};
 
 use crate::outcome::Outcome;
-use confluence_core::End;
 use pop_instance::Cursors;
 use std::alloc::{AllocError, Global};
 
@@ -28,14 +27,13 @@ pub(crate) fn less(budget: u64, pops: u64) -> u64
     budget - pops
 }
 
-/// Puts the pops of row j, and how many events occur there.
-pub(crate) fn put_counts(end: &End, j: usize, counts: &mut [u64])
+/// Puts the pops or rounds of row j, and how many events occur there.
+pub(crate) fn put_counts(pops: u64, stuck: u64, j: usize, counts: &mut [u64])
     requires { 2 * j + 1 < length counts.old }
-    ensures { counts.new ≡ slice_set (slice_set counts.old (2 * j) end.now.pops) (2 * j + 1)
-        (length end.now.stuck) }
+    ensures { counts.new ≡ slice_set (slice_set counts.old (2 * j) pops) (2 * j + 1) stuck }
 {
-    counts[2 * j] = end.pops;
-    counts[2 * j + 1] = end.stuck.len();
+    counts[2 * j] = pops;
+    counts[2 * j + 1] = stuck;
 }
 
 // Whether no event occurs in any of the counted rows.

@@ -1,5 +1,5 @@
 //! The laws of calls that are stopped and go on: each function's contract is the law.
-ghost use Rattle.array_calls.specs.Laws.{TreeRowGoesOn, ValueRowGoesOn};
+ghost use Rattle.array_calls.specs.Laws.{RoundRowGoesOn, TreeRowGoesOn, ValueRowGoesOn};
 
 /// A call for trees may continue from the row of cursors at which another call stopped. It reaches
 /// the row of the run that was not stopped, and the pops of both calls sum to those of that run.
@@ -10,4 +10,10 @@ pub fn tree_row_goes_on()
 /// The theorem of `tree_row_goes_on` holds for a call for values of an extremal instance.
 pub fn value_row_goes_on()
     ensures { ValueRowGoesOn }
+{}
+
+/// So does a call for values by rounds, of any listed events, with as many rounds in both calls
+/// together.
+pub fn round_row_goes_on()
+    ensures { RoundRowGoesOn }
 {}

@@ -15,8 +15,10 @@ pub mod laws;
 mod orienting;
 mod outcome;
 mod refusal;
-mod round_rows;
 mod rounding;
+mod row_end;
+mod row_part;
+mod row_samples;
 mod rows;
 #[cfg(test)]
 mod tests;

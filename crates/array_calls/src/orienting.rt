@@ -13,6 +13,7 @@ use crate::counts::outcome_of;
 use crate::draw::Draw;
 use crate::outcome::Outcome;
 use crate::refusal::ArrayRefusal;
+use crate::row_samples::RowSamples;
 use crate::value_rows::put_value_samples;
 use graph_read::{Graph, graph_of_ends};
 use pop_batch::Samples;
@@ -79,6 +80,7 @@ fn put_orientations(
     counts: &mut [u64],
 ) -> Result<Option<usize>, AllocError>
     requires sinks { AreSinksUnder draw.key draw.height graph.now instance.now }
+    requires some { 0 < draw.height }
     requires last { draw.first + length counts.old / 2 ≤ 2 ^ 32 }
     requires from { FitFrom (length graph.now.edges) draw.height draw.from.now }
     requires directions { length directions.old ≡ length counts.old / 2 * length graph.now.edges }
@@ -95,7 +97,7 @@ fn put_orientations(
     put_value_samples(
         alloc,
         graph.edges(),
-        &samples,
+        &RowSamples::ByPopping(samples),
         draw.first,
         draw.from,
         draw.budget,

@@ -2,43 +2,50 @@
 ghost use Rattle.std.specs.Prelude.{◌≡◌, ◌≢◌, ◌+◌, ◌*◌, ◌/◌, ◌<◌, ◌≤◌, ◌^◌, length, None, OnOk, IfOk, IfErr};
 ghost use Rattle.dimacs_read.specs.Literals.{cnf_in};
 ghost use Rattle.array_calls.specs.declared.formula_refusal.FormulaRefusal.TheVariants.{OutOfMemory};
-ghost use Rattle.array_calls.specs.Assignments.{AreRoundedRows, IsFormulaRefusal, RefusesLiterals};
+ghost use Rattle.array_calls.specs.Assignments.{IsFormulaRefusal, LeavesRounded, RefusesLiterals};
 ghost use Rattle.array_calls.specs.Draws.{IsOutcome, stopped_at};
-ghost use Rattle.array_calls.specs.Trees.{FitsWanted};
+ghost use Rattle.array_calls.specs.Trees.{FitFrom, FitsWanted, WantsStops};
+ghost use Rattle.array_calls.specs.Values.{value_arrays};
 
 use crate::assigning::{ArrayFormula, events_instance, indexed_events};
 use crate::counts::outcome_of;
+use crate::draw::Draw;
 use crate::formula_refusal::FormulaRefusal;
 use crate::outcome::Outcome;
-use crate::round_rows::put_round_samples;
+use crate::row_samples::RowSamples;
+use crate::value_rows::put_value_samples;
 use dimacs_read::formula_of_literals;
 use prs_rounds::RoundSamples;
 use std::alloc::Global;
 
 /// Puts so many assignments of any formula in an array of literals, as many as there are pairs of
 /// counts, into the rows of the arrays, by rounds (Guo, Jerrum and Liu 2019): those of the samples
-/// from the first number on. It stops at no row.
+/// from the first number on.
 ///
-/// The rows are those of `assignments`, but a pair of counts begins with the number of rounds.
+/// The rows are those of `assignments`, but a pair of counts begins with the number of rounds, and
+/// the budget counts rounds, of all rows together. Where it is spent, the call stops at a row in
+/// which events occur, even if no further round can be made there: a call that goes on from that row
+/// of cursors tells the row exhausted then, without a round.
 pub fn assignments_by_rounds(
     alloc: Global,
     asked: ArrayFormula,
-    key: [u8; 32],
-    height: u32,
-    first: u32,
+    draw: Draw,
     values: &mut [u8],
     useds: &mut [u32],
     counts: &mut [u64],
 ) -> Result<Outcome, FormulaRefusal>
-    requires some { 0 < height }
-    requires short { height < 2 ^ 31 }
-    requires last { first + length counts.old / 2 ≤ 2 ^ 32 }
+    requires some { 0 < draw.height }
+    requires short { draw.height < 2 ^ 31 }
+    requires last { draw.first + length counts.old / 2 ≤ 2 ^ 32 }
+    requires from { FitFrom asked.variables draw.height draw.from.now }
     requires values { length values.old ≡ length counts.old / 2 * asked.variables }
     requires useds { FitsWanted asked.variables (length counts.old / 2) useds.old }
-    ensures rows { OnOk result (AreRoundedRows key height
-        (cnf_in asked.entry.variables asked.entry.literals.now) first (length counts.old / 2)
-        values.new useds.new counts.new) }
-    ensures whole { IfOk result (λ outcome. stopped_at outcome ≡ None) }
+    requires stops { WantsStops draw.budget asked.variables (length counts.old / 2) useds.old }
+    ensures leaves { IfOk result (λ outcome. LeavesRounded draw.entry.key draw.entry.height
+        (cnf_in asked.entry.variables asked.entry.literals.now) draw.entry.first
+        draw.entry.from.now draw.entry.budget (length counts.old / 2)
+        (value_arrays values.old useds.old counts.old)
+        (value_arrays values.new useds.new counts.new) (stopped_at outcome)) }
     ensures outcome { IfOk result (IsOutcome counts.new) }
     ensures size { OnOk result (length counts.new ≡ length counts.old) }
     ensures refused { IfErr result (IsFormulaRefusal
@@ -49,16 +56,18 @@ pub fn assignments_by_rounds(
 {
     let formula = formula_of_literals(alloc, asked.variables, asked.literals)?;
     let (events, index) = indexed_events(alloc, &formula)?;
-    let instance = events_instance(asked.variables, events, key, height)?;
+    let instance = events_instance(asked.variables, events, draw.key, draw.height)?;
     let samples = RoundSamples::with(&instance, index);
-    put_round_samples(
+    let stopped = put_value_samples(
         alloc,
         asked.variables,
-        &samples,
-        first,
+        &RowSamples::ByRounds(samples),
+        draw.first,
+        draw.from,
+        draw.budget,
         values,
         useds,
         counts,
     )?;
-    Ok(outcome_of(None, counts))
+    Ok(outcome_of(stopped, counts))
 }

@@ -50,12 +50,17 @@ fn rounds_take_clauses_that_clash(rt: HostRuntime) -> Result<(), Fail> {
         variables: 3,
         literals: &CLASHING,
     };
+    let draw = Draw {
+        key: [7; 32],
+        height: 1000,
+        first: 0,
+        from: &[],
+        budget: u64::MAX,
+    };
     match assignments_by_rounds(
         rt.alloc(),
         asked,
-        [7; 32],
-        1000,
-        0,
+        draw,
         &mut values,
         &mut useds,
         &mut counts,

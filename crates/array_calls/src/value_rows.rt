@@ -1,29 +1,18 @@
 //! Rows of variables with two values, in one array.
 ghost use Rattle.std.specs.Prelude.{◌≡◌, ◌⊎◌, ◌+◌, ◌*◌, ◌/◌, ◌<◌, ◌≤◌, ◌^◌, ℕ, length, slice_index, slice_set, OnOk, IfOk};
-ghost use Rattle.pop_model.specs.Extremal.{IsExtremal};
-ghost use Rattle.array_calls.specs.Rows.{PutsRow, PutsWanted};
+ghost use Rattle.pop_model.specs.Stacks.{height_of};
 ghost use Rattle.pop_batch.specs.Parts.{CanStart};
 ghost use Rattle.array_calls.specs.Draws.{given};
+ghost use Rattle.array_calls.specs.Rows.{PutsRow, PutsWanted};
+ghost use Rattle.array_calls.specs.RowSamples.{ends_of, instance_of, stops_of};
 ghost use Rattle.array_calls.specs.Trees.{FitsWanted, WantsStops};
-ghost use Rattle.array_calls.specs.Values.{AreOfPairs, LeavesValues, number_at, value_arrays};
+ghost use Rattle.array_calls.specs.Values.{AreOfPairs, LeavesRows, number_at, value_arrays};
 
 use crate::counts::{given, less, put_counts};
-use confluence_core::End;
-use pop_batch::Samples;
-use pop_instance::{Cursors, Values};
+use crate::row_end::RowEnd;
+use crate::row_samples::RowSamples;
+use pop_instance::Cursors;
 use std::alloc::{AllocError, Global};
-
-// Puts so many values, which are below 256.
-fn put_values(count: u32, values: &Values, numbers: &mut [u8], at: usize)
-    requires count { count ≤ length values.now }
-    requires small { (v : ℕ) → v < count → slice_index values.now v < 256 }
-    requires room { at + count ≤ length numbers.old }
-    ensures { PutsRow at count (number_at values.now) numbers.old numbers.new }
-{
-    for k in 0..count {
-        numbers[at + k as usize] = values.get(k) as u8;
-    }
-}
 
 // Puts so many cursors.
 fn put_cursors(count: u32, cursors: &Cursors, numbers: &mut [u32], at: usize)
@@ -36,8 +25,8 @@ fn put_cursors(count: u32, cursors: &Cursors, numbers: &mut [u32], at: usize)
     }
 }
 
-/// Puts so many cursors, where they are wanted.
-pub(crate) fn put_wanted_cursors(count: u32, cursors: &Cursors, numbers: &mut [u32], at: usize)
+// Puts so many cursors, where they are wanted.
+fn put_wanted_cursors(count: u32, cursors: &Cursors, numbers: &mut [u32], at: usize)
     requires count { count ≤ length cursors.now }
     requires room { (length numbers.old ≡ 0) ⊎ (at + count ≤ length numbers.old) }
     ensures { PutsWanted at count (number_at cursors.now) numbers.old numbers.new }
@@ -50,7 +39,7 @@ pub(crate) fn put_wanted_cursors(count: u32, cursors: &Cursors, numbers: &mut [u
 // Puts the end of a sample into its row of each array.
 fn put_value_end(
     count: u32,
-    end: &End,
+    end: &RowEnd,
     j: usize,
     values: &mut [u8],
     useds: &mut [u32],
@@ -68,13 +57,13 @@ fn put_value_end(
         (2 * j + 1) (length end.now.stuck) }
 {
     let at = j * count as usize;
-    put_values(count, &end.values, values, at);
-    put_wanted_cursors(count, &end.cursors, useds, at);
-    put_counts(end, j, counts);
+    end.put_values(count, values, at);
+    put_wanted_cursors(count, end.cursors(), useds, at);
+    put_counts(end.pops(), end.stuck(), j, counts);
 }
 
 // Puts where a sample was stopped into its row of cursors and of counts.
-fn put_value_stop(count: u32, stop: &End, j: usize, useds: &mut [u32], counts: &mut [u64])
+fn put_value_stop(count: u32, stop: &RowEnd, j: usize, useds: &mut [u32], counts: &mut [u64])
     requires cursors { count ≤ length stop.now.cursors }
     requires useds { j * count + count ≤ length useds.old }
     requires counts { 2 * j + 1 < length counts.old }
@@ -82,16 +71,16 @@ fn put_value_stop(count: u32, stop: &End, j: usize, useds: &mut [u32], counts: &
     ensures counts { counts.new ≡ slice_set (slice_set counts.old (2 * j) stop.now.pops)
         (2 * j + 1) (length stop.now.stuck) }
 {
-    put_cursors(count, &stop.cursors, useds, j * count as usize);
-    put_counts(stop, j, counts);
+    put_cursors(count, stop.cursors(), useds, j * count as usize);
+    put_counts(stop.pops(), stop.stuck(), j, counts);
 }
 
 /// Puts samples of so many variables into the rows of the arrays, as many as there are pairs of
 /// counts, until the budget is spent. The row at which it was.
-pub fn put_value_samples(
+pub(crate) fn put_value_samples(
     alloc: Global,
     count: u32,
-    samples: &Samples,
+    samples: &RowSamples,
     first: u32,
     from: &[u32],
     budget: u64,
@@ -99,27 +88,28 @@ pub fn put_value_samples(
     useds: &mut [u32],
     counts: &mut [u64],
 ) -> Result<Option<usize>, AllocError>
-    requires pairs { AreOfPairs count samples.now.stacks }
+    requires pairs { AreOfPairs count (instance_of samples.now).stacks }
+    requires tall { (v : ℕ) → 0 < height_of (instance_of samples.now).stacks v }
     requires last { first + length counts.old / 2 ≤ 2 ^ 32 }
-    requires start { CanStart samples.now (given from.now 0) }
+    requires start { CanStart (instance_of samples.now) (given from.now 0) }
     requires values { length values.old ≡ length counts.old / 2 * count }
     requires useds { FitsWanted count (length counts.old / 2) useds.old }
     requires stops { WantsStops budget count (length counts.old / 2) useds.old }
-    ensures leaves { IfOk result (LeavesValues samples.now count first from.now budget
-        (length counts.old / 2) (value_arrays values.old useds.old counts.old)
+    ensures leaves { IfOk result (LeavesRows (ends_of samples.now) (stops_of samples.now) count
+        first from.now budget (length counts.old / 2) (value_arrays values.old useds.old counts.old)
         (value_arrays values.new useds.new counts.new)) }
     ensures size { OnOk result (length counts.new ≡ length counts.old) }
 {
     let mut left = budget;
     for j in 0..counts.len() / 2 {
         let start = given(alloc, from, j)?;
-        let part = samples.run_part(alloc, first + j as u32, start, left)?;
+        let part = samples.run_part(alloc, count, first + j as u32, start, left)?;
         if part.is_open {
             put_value_stop(count, &part.at, j, useds, counts);
             return Ok(Some(j));
         }
         put_value_end(count, &part.at, j, values, useds, counts);
-        left = less(left, part.at.pops);
+        left = less(left, part.at.pops());
     }
     Ok(None)
 }

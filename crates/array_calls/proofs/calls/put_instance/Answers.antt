@@ -1,4 +1,4 @@
-use Rattle.std.proofs.Common.{◌≡◌, List, ℕ, ◌∙◌, sym, subst}
+use Rattle.std.proofs.Common.{List, ℕ, ◌∙◌, sym, subst}
 use Rattle.pop_model.specs.Instances.{Instance}
 use Rattle.pop_model.specs.Extremal.{IsExtremal}
 use Rattle.pop_model.proofs.CycleFamily.{cycles_extremal}

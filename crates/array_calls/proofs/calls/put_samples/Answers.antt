@@ -1,6 +1,6 @@
-use Rattle.std.proofs.Common.{◌≡◌, ◌∙◌, ℕ, ◌/◌, ◌+◌, List, length, sym, subst, arith}
+use Rattle.std.proofs.Common.{◌∙◌, ℕ, ◌/◌, ◌+◌, List, length, sym, subst, arith}
 use Rattle.std.specs.Prelude.{Option}
-use Rattle.pop_batch.specs.Parts.{CanStart, IsPart, IsPartEnd, IsPartStop}
+use Rattle.pop_batch.specs.Parts.{CanStart, IsPartEnd, IsPartStop}
 use Rattle.array_calls.specs.Trees.{tree_arrays}
 use Rattle.array_calls.proofs.Budgets.{can_start_at, not_so, stop_limited}
 use Rattle.array_calls.proofs.TreeParts.{have_cursors, have_slots, part_over}

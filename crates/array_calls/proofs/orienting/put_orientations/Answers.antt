@@ -1,5 +1,6 @@
-use Rattle.std.proofs.Common.{◌≡◌, ◌∙◌, [], ◌∷◌, length, sym, subst, refl}
+use Rattle.std.proofs.Common.{◌∙◌, ◌<◌, [], ◌∷◌, length, sym, subst, refl}
 use Rattle.std.proofs.lemmas.List.{length-replicate}
+use Rattle.pop_model.specs.Stacks.{height_of}
 use Rattle.pop_model.specs.Instances.{Instance}
 use Rattle.pop_model.specs.Extremal.{IsExtremal}
 use Rattle.sink_popping.proofs.OneDirection.{sinks_extremal}
@@ -23,3 +24,8 @@ put_value_samples-requires-clause-start c =
     let i : Instance = pairs_under d.key d.height n sinks.events in
     subst (λ (x : Instance). CanStart x (given d.from.now 0)) (sym (c.in_ok-samples.ensures ∙ sinks.is))
     (pairs_can_start i n d.height d.from.now (length-replicate n (1 ∷ 1 ∷ [])) (λ v. refl) c.requires.from)
+
+pub put_value_samples-requires-clause-tall : goal.put_value_samples-requires-clause-tall
+put_value_samples-requires-clause-tall c =
+    let sinks = c.requires.sinks in
+    λ v. subst (λ (x : Instance). 0 < height_of x.stacks v) (sym (c.in_ok-samples.ensures ∙ sinks.is)) c.requires.some

@@ -1,9 +1,11 @@
-use Rattle.std.proofs.Common.{◌≡◌, ◌∙◌, ℕ, ◌/◌, ◌+◌, List, length, sym, subst, arith}
+use Rattle.std.proofs.Common.{◌∙◌, ℕ, ◌/◌, ◌+◌, List, length, sym, ap, subst, arith}
+use Rattle.array_calls.specs.Draws.{less}
 use Rattle.std.specs.Prelude.{Option}
-use Rattle.pop_batch.specs.Parts.{CanStart, IsPartEnd, IsPartStop}
+use Rattle.pop_batch.specs.Parts.{CanStart}
+use Rattle.array_calls.specs.RowSamples.{ends_of, instance_of, stops_of}
 use Rattle.array_calls.specs.Values.{value_arrays}
 use Rattle.array_calls.proofs.Budgets.{can_start_at, not_so, stop_limited}
-use Rattle.array_calls.proofs.TreeParts.{part_over}
+use Rattle.array_calls.proofs.RowParts.{end_over, stop_over}
 use Rattle.array_calls.proofs.TreeRows.{row_fits, wanted_fits}
 use Rattle.array_calls.proofs.ValueRows.{ValuesStand, have_values, values_end, values_more, values_none, values_stop}
 use Rattle.array_calls.proofs.value_rows.put_value_samples.Goals as goal
@@ -11,20 +13,21 @@ use Rattle.array_calls.proofs.value_rows.put_value_samples.Goals as goal
 pub loop-j-init : goal.loop-j-init
 loop-j-init c =
     let a = c.args in
-    values_none a.samples.now a.count a.first a.from.now a.budget (length a.counts.now / 2) a.values.now a.useds.now
+    values_none (ends_of a.samples.now) a.count a.first a.from.now a.budget (length a.counts.now / 2) a.values.now a.useds.now
     a.counts.now (omega (arith, c.ranges.budget)) c.requires.values c.requires.useds
 
-pub run_part-requires : goal.run_part-requires
-run_part-requires c = record {
-  start = subst (CanStart c.args.samples.now) (sym c.in_ok-start.ensures)
-      (can_start_at c.args.samples.now c.args.from.now c.loop-j.j c.requires.start);
-}
+pub run_part-requires-clause-start : goal.run_part-requires-clause-start
+run_part-requires-clause-start c =
+    let i = instance_of c.args.samples.now in
+    subst (CanStart i) (sym c.in_ok-start.ensures) (can_start_at i c.args.from.now c.loop-j.j c.requires.start)
 
 pub put_value_stop-requires-clause-cursors : goal.put_value_stop-requires-clause-cursors
 put_value_stop-requires-clause-cursors c =
     let stop = c.in_ok-part.ensures.stopped c.if-part.true in
-    let has = have_values c.args.samples.now c.args.count (c.args.first + c.loop-j.j) c.in_ok-part.part.at
-    c.requires.pairs stop.0.over in omega (arith, has.0)
+    let j = c.args.first + c.loop-j.j in
+    let over = stop_over c.args.samples.now j c.in_ok-start.start c.in_ok-part.part.at stop.0 in
+    let has = have_values (instance_of c.args.samples.now) c.args.count j c.in_ok-part.part.at c.requires.pairs over in
+    omega (arith, has.0)
 
 pub put_value_stop-requires-clause-useds : goal.put_value_stop-requires-clause-useds
 put_value_stop-requires-clause-useds c =
@@ -39,9 +42,9 @@ returns-then-part-clause-leaves c =
     let a = c.args in
     let part = c.in_ok-part.part in
     let stop = c.in_ok-part.ensures.stopped c.if-part.true in
-    let of = subst (λ (f : Option (List ℕ)). IsPartStop a.samples.now (a.first + c.loop-j.j) f part.at)
+    let of = subst (λ (f : Option (List ℕ)). stops_of a.samples.now (a.first + c.loop-j.j) f part.at)
     c.in_ok-start.ensures stop.0 in
-    values_stop a.samples.now a.count a.first a.from.now a.budget (length a.counts.now / 2) c.loop-j.j c.loop-j.left
+    values_stop (ends_of a.samples.now) (stops_of a.samples.now) a.count a.first a.from.now a.budget (length a.counts.now / 2) c.loop-j.j c.loop-j.left
     part.at (value_arrays a.values.now a.useds.now a.counts.now) c.loop-j.values c.loop-j.useds c.loop-j.counts
     c.put_value_stop.new.useds c.put_value_stop.new.counts (omega (arith, c.loop-j-test.true)) of stop.1
     c.in_ok-part.ensures.few (omega (arith, c.loop-j-test.true, c.loop-j.invariant.counts_stay.size))
@@ -49,27 +52,27 @@ returns-then-part-clause-leaves c =
 
 pub put_value_end-requires-clause-count : goal.put_value_end-requires-clause-count
 put_value_end-requires-clause-count c =
-    let i = c.args.samples.now in
+    let samples = c.args.samples.now in
     let j = c.args.first + c.loop-j.j in
     let end = c.in_ok-part.ensures.ended (not_so c.in_ok-part.part.is_open c.if-part.false) in
-    let has = have_values i c.args.count j c.in_ok-part.part.at c.requires.pairs
-    (part_over i j c.in_ok-start.start c.in_ok-part.part.at end) in omega (arith, has.1)
+    let has = have_values (instance_of samples) c.args.count j c.in_ok-part.part.at c.requires.pairs
+    (end_over samples j c.in_ok-start.start c.in_ok-part.part.at end) in omega (arith, has.1)
 
 pub put_value_end-requires-clause-cursors : goal.put_value_end-requires-clause-cursors
 put_value_end-requires-clause-cursors c =
-    let i = c.args.samples.now in
+    let samples = c.args.samples.now in
     let j = c.args.first + c.loop-j.j in
     let end = c.in_ok-part.ensures.ended (not_so c.in_ok-part.part.is_open c.if-part.false) in
-    let has = have_values i c.args.count j c.in_ok-part.part.at c.requires.pairs
-    (part_over i j c.in_ok-start.start c.in_ok-part.part.at end) in omega (arith, has.0)
+    let has = have_values (instance_of samples) c.args.count j c.in_ok-part.part.at c.requires.pairs
+    (end_over samples j c.in_ok-start.start c.in_ok-part.part.at end) in omega (arith, has.0)
 
 pub put_value_end-requires-clause-small : goal.put_value_end-requires-clause-small
 put_value_end-requires-clause-small c =
-    let i = c.args.samples.now in
+    let samples = c.args.samples.now in
     let j = c.args.first + c.loop-j.j in
     let end = c.in_ok-part.ensures.ended (not_so c.in_ok-part.part.is_open c.if-part.false) in
-    let has = have_values i c.args.count j c.in_ok-part.part.at c.requires.pairs
-    (part_over i j c.in_ok-start.start c.in_ok-part.part.at end) in λ v below. omega (arith, has.2 v below)
+    let has = have_values (instance_of samples) c.args.count j c.in_ok-part.part.at c.requires.pairs
+    (end_over samples j c.in_ok-start.start c.in_ok-part.part.at end) in λ v below. omega (arith, has.2 v below)
 
 pub put_value_end-requires-clause-values : goal.put_value_end-requires-clause-values
 put_value_end-requires-clause-values c =
@@ -86,12 +89,12 @@ loop-j-preserved c =
     let a = c.args in
     let part = c.in_ok-part.part in
     let end = c.in_ok-part.ensures.ended (not_so c.in_ok-part.part.is_open c.if-part.false) in
-    let of = subst (λ (f : Option (List ℕ)). IsPartEnd a.samples.now (a.first + c.loop-j.j) f part.at)
+    let of = subst (λ (f : Option (List ℕ)). ends_of a.samples.now (a.first + c.loop-j.j) f part.at)
     c.in_ok-start.ensures end in
-    subst (λ n. ValuesStand a.samples.now a.count a.first a.from.now a.budget (length a.counts.now / 2)
+    subst (λ n. ValuesStand (ends_of a.samples.now) a.count a.first a.from.now a.budget (length a.counts.now / 2)
     (c.loop-j.j + 1) n (value_arrays a.values.now a.useds.now a.counts.now) c.put_value_end.new.values
-    c.put_value_end.new.useds c.put_value_end.new.counts) (sym c.less-left.ensures)
-    (values_more a.samples.now a.count a.first a.from.now a.budget (length a.counts.now / 2) c.loop-j.j c.loop-j.left
+    c.put_value_end.new.useds c.put_value_end.new.counts) (sym (c.less-left.ensures ∙ ap (less c.loop-j.left) c.pops.ensures))
+    (values_more (ends_of a.samples.now) a.count a.first a.from.now a.budget (length a.counts.now / 2) c.loop-j.j c.loop-j.left
     part.at (value_arrays a.values.now a.useds.now a.counts.now) c.loop-j.values c.loop-j.useds c.loop-j.counts
     c.put_value_end.new.values c.put_value_end.new.useds c.put_value_end.new.counts of c.in_ok-part.ensures.most
     (omega (arith, c.loop-j-test.true, c.loop-j.invariant.counts_stay.size)) c.put_value_end.ensures.values
@@ -100,6 +103,6 @@ loop-j-preserved c =
 pub returns-clause-leaves : goal.returns-clause-leaves
 returns-clause-leaves c =
     let a = c.args in
-    values_end a.samples.now a.count a.first a.from.now a.budget (length a.counts.now / 2) c.loop-j.j c.loop-j.left
+    values_end (ends_of a.samples.now) a.count a.first a.from.now a.budget (length a.counts.now / 2) c.loop-j.j c.loop-j.left
     (value_arrays a.values.now a.useds.now a.counts.now) c.loop-j.values c.loop-j.useds c.loop-j.counts
     (omega (arith, c.loop-j-test.false, c.loop-j.auto.j-end)) c.loop-j.invariant
