@@ -88,7 +88,8 @@ check_calls() {
 check_rows() {
     # Python loads the libraries of this machine.
     [ -z "$cross" ] || return 0
-    (cd .. && python3 -B -m checks.arrays --library "$libraries/libpopsample.so" --graphs 1000) || fail "rows differ"
+    (cd .. && python3 -B -m checks.arrays --library "$libraries/libpopsample.so" --graphs 1000 --formulas 1000) \
+        || fail "rows differ"
 }
 
 # An example prints the arrows of the tree that the program prints: NAME COMMAND.., which is run where R's library lies.
@@ -106,6 +107,9 @@ check_callers() {
         link_program "$room/$name" -std=c99 "$callers/$name.c" "$libraries/libpopsample.a"
         draws_a_tree C "$room/$name" "$key"
     done
+    link_program "$room/array_solutions" -std=c99 "$callers/array_solutions.c" "$libraries/libpopsample.a"
+    diff <("$room/static/popsample" formula --key "$key" --count 5 < ../examples/chain.cnf | grep '^v ') \
+        <("$room/array_solutions" "$key" 5 < ../examples/chain.cnf) || fail "the example in C draws other solutions"
     # R and Julia run the libraries of this machine.
     [ -z "$cross" ] || return 0
     if command -v R > /dev/null; then

@@ -1,6 +1,6 @@
 /* popsample for C: random spanning trees, orientations without sinks and solutions of formulas, in the caller's own
    process. Link libpopsample.a or libpopsample.so. docs/FORMATS.md has the words, the texts and the answers of
-   popsample_run. popsample_trees and popsample_orientations take and fill arrays.
+   popsample_run. popsample_trees, popsample_orientations and popsample_assignments take and fill arrays.
 
    Nothing is kept from one call to the next, no thread is started, and calls may be made from several threads at once.
    Memory is taken by malloc, and given back before a call returns. */
@@ -26,7 +26,7 @@ enum popsample_status {
     POPSAMPLE_IMPOSSIBLE = 6, /* s EMPTY, s ISOLATED, s ROOT, s CUTOFF, or witness none: the input has no such thing */
     POPSAMPLE_MEMORY = 9,     /* out of memory; *written is 0 */
     POPSAMPLE_OPEN = 10,      /* cert, or s LEGAL with a log from which the run can continue */
-    POPSAMPLE_STOPPED = 10,   /* a call with arrays: its budget of pops was spent */
+    POPSAMPLE_STOPPED = 10,   /* a call with arrays: its budget was spent */
     POPSAMPLE_NOT_LEGAL = 11, /* s NOTLEGAL: a record of the certificate's log is not valid */
     POPSAMPLE_NO_ROOM = 12,   /* the output has less room than *written, which the result needs */
     POPSAMPLE_NO_WORDS = 13   /* the last argument does not end with a byte 0, or one is not UTF-8; *written is 0 */
@@ -50,19 +50,24 @@ enum popsample_status {
 uint32_t popsample_run(const uint8_t *words, size_t words_len, const uint8_t *text, size_t text_len,
                        uint8_t *output, size_t room, size_t *written);
 
-/* ---- Samples of graphs in arrays ----
+/* ---- Samples of graphs and formulas in arrays ----
 
-   popsample_trees and popsample_orientations read a graph from arrays and write samples to arrays. They read and write no
-   text. Vertices, edges, samples, rows and positions count from 0.
+   popsample_trees and popsample_orientations read a graph from arrays, popsample_assignments reads a formula, and all write
+   samples to arrays. They read and write no text. Vertices, edges, samples, rows and positions count from 0.
 
    The graph. Edge i joins the vertices ends[2 i] and ends[2 i + 1]. Self-loops and parallel edges are allowed. A graph has
    at most 2^22 (4,194,304) vertices and 2^23 (8,388,608) edges.
 
-   The samples. `key` is 32 random bytes. The same key and the same graph give the same samples on every machine. The
-   height, from 1 to 2^31 - 1, is the number of entries in the stack of each vertex or edge. At 2^31 - 1 no stack runs out
-   in practice. A call writes `counts_len / 2` samples, one in each row: row j has the sample number `first + j`, which is
-   the sample of that number of `popsample tree --count` or `popsample orient --count` under the same key. So several calls,
-   threads or machines can share the samples of one key. `first` plus the number of samples is at most 2^32.
+   The formula. `literals` has the clauses one after another, each followed by a 0, as in DIMACS files. The literal v, from
+   1 to `variables`, means that variable v is true, and -v means that it is false. A formula has at most 2^22 (4,194,304)
+   variables, 2^22 clauses and 2^25 (33,554,432) literals.
+
+   The samples. `key` is 32 random bytes. The same key and the same input give the same samples on every machine. The
+   height, from 1 to 2^31 - 1, is the number of entries in the stack of each vertex, edge or variable. At 2^31 - 1 no stack
+   runs out in practice. A call writes `counts_len / 2` samples, one in each row: row j has the sample number `first + j`.
+   It is the sample of that number of `popsample tree --count`, `popsample orient --count` or `popsample formula --count`
+   under the same key. So several calls, threads or machines can share the samples of one key. `first` plus the number of
+   samples is at most 2^32.
 
    The rows. All rows of an array have one length and follow one another. The length of each array must fit the number of
    samples. An optional array of length 0 is not written. Row j of `counts` has two numbers: counts[2 j] is the number of
@@ -80,34 +85,45 @@ uint32_t popsample_run(const uint8_t *words, size_t words_len, const uint8_t *te
    The start. `from` has length 0, or it is a row of `used`. Then the first sample continues from these positions, which
    must be below the height. All other samples start at the beginning.
 
+   Rounds. If popsample_assignments samples by rounds, `counts` and `budget` count rounds instead of pops. A call can then
+   stop at a row whose stacks have run out. The call that continues it makes no round in this row and finds it exhausted.
+
    Errors. The status is one of these:
 
        POPSAMPLE_OK          every row is a sample
        POPSAMPLE_EXHAUSTED   every row is complete, and in some rows a stack ran out
        POPSAMPLE_STOPPED     the budget was spent at row *place
-       POPSAMPLE_USAGE       a length, the key, the height, `first`, `from` or `budget` is not valid
-       POPSAMPLE_MALFORMED, POPSAMPLE_LIMIT, POPSAMPLE_IMPOSSIBLE
-                             the graph is rejected: *kind says why, and *place says where
+       POPSAMPLE_USAGE       a length, the key, the height, `first`, `from`, `budget` or `by_rounds` is not valid
+       POPSAMPLE_MALFORMED, POPSAMPLE_LIMIT, POPSAMPLE_CLASH, POPSAMPLE_IMPOSSIBLE
+                             the graph or the formula is rejected: *kind says why, and *place says where
        POPSAMPLE_MEMORY      malloc returned NULL; rows may be incomplete
 
-   After POPSAMPLE_USAGE and after a rejected graph no array has changed. *kind is 0 unless the graph is rejected. *place is 0
-   unless the graph is rejected or the budget was spent. If several errors apply, the first one in the order of
+   After POPSAMPLE_USAGE and after a rejected input no array has changed. *kind is 0 unless the input is rejected. *place is 0
+   unless the input is rejected or the budget was spent. If several errors apply, the first one in the order of
    `enum popsample_kind` is reported. All requirements on pointers and memory of popsample_run apply here too: no pointer is
    NULL, also if its length is 0, and an array that is written overlaps no other argument. */
 #define POPSAMPLE_NONE UINT32_MAX /* no vertex, or no edge; -1 as int32_t */
 
-/* Why a graph is rejected. The status and the meaning of *place are in parentheses; without a meaning, *place is 0. */
+/* Why a graph or a formula is rejected. The status and the meaning of *place are in parentheses; without a meaning, *place
+   is 0. Clauses count from 1 here, as in the output of the program. */
 enum popsample_kind {
-    POPSAMPLE_MANY_VERTICES = 1, /* more than 2^22 vertices (LIMIT) */
-    POPSAMPLE_ODD_ENDS = 2,      /* ends_len is odd (MALFORMED) */
-    POPSAMPLE_MANY_EDGES = 3,    /* more than 2^23 edges (LIMIT) */
-    POPSAMPLE_WEIGHT_COUNT = 4,  /* weights_len is neither 0 nor the number of edges (MALFORMED) */
-    POPSAMPLE_NO_VERTEX = 5,     /* a number in `ends` is not a vertex (MALFORMED; the lowest position in `ends`) */
-    POPSAMPLE_NO_WEIGHT = 6,     /* a weight is 0 (MALFORMED; the lowest position in `weights`) */
-    POPSAMPLE_NO_ROOT = 7,       /* the root is not a vertex (IMPOSSIBLE) */
-    POPSAMPLE_CUT_OFF = 8,       /* a vertex is not connected to the root (IMPOSSIBLE; the lowest such vertex) */
-    POPSAMPLE_HEAVY = 9,         /* the weights at a vertex exceed 2^32 - 1 in total (LIMIT; the lowest such vertex) */
-    POPSAMPLE_ISOLATED = 10      /* a vertex has no edge (IMPOSSIBLE; the lowest such vertex) */
+    POPSAMPLE_MANY_VERTICES = 1,   /* more than 2^22 vertices (LIMIT) */
+    POPSAMPLE_ODD_ENDS = 2,        /* ends_len is odd (MALFORMED) */
+    POPSAMPLE_MANY_EDGES = 3,      /* more than 2^23 edges (LIMIT) */
+    POPSAMPLE_WEIGHT_COUNT = 4,    /* weights_len is neither 0 nor the number of edges (MALFORMED) */
+    POPSAMPLE_NO_VERTEX = 5,       /* a number in `ends` is not a vertex (MALFORMED; the lowest position in `ends`) */
+    POPSAMPLE_NO_WEIGHT = 6,       /* a weight is 0 (MALFORMED; the lowest position in `weights`) */
+    POPSAMPLE_NO_ROOT = 7,         /* the root is not a vertex (IMPOSSIBLE) */
+    POPSAMPLE_CUT_OFF = 8,         /* a vertex is not connected to the root (IMPOSSIBLE; the lowest such vertex) */
+    POPSAMPLE_HEAVY = 9,           /* the weights at a vertex exceed 2^32 - 1 in total (LIMIT; the lowest such vertex) */
+    POPSAMPLE_ISOLATED = 10,       /* a vertex has no edge (IMPOSSIBLE; the lowest such vertex) */
+    POPSAMPLE_MANY_VARIABLES = 11, /* more than 2^22 variables (LIMIT) */
+    POPSAMPLE_MANY_LITERALS = 12,  /* more than 2^25 literals or 2^22 clauses (LIMIT) */
+    POPSAMPLE_NO_LITERAL = 13,     /* a number is neither 0 nor a literal (MALFORMED; the lowest position in `literals`) */
+    POPSAMPLE_UNENDED = 14,        /* the last clause is not followed by a 0 (MALFORMED) */
+    POPSAMPLE_EMPTY_CLAUSE = 15,   /* a clause has no literal (IMPOSSIBLE; the lowest such clause) */
+    POPSAMPLE_CLASHING = 16        /* by popping, two clauses share a variable and can both be false (CLASH; the lowest such
+                                      pair: the first times 2^32 plus the second) */
 };
 
 /* Samples spanning trees, with the arrows of all vertices towards `root`. The probability of a tree is proportional to the
@@ -135,6 +151,18 @@ uint32_t popsample_orientations(uint32_t vertices, const uint32_t *ends, size_t 
                                 const uint32_t *from, size_t from_len, uint64_t budget,
                                 uint8_t *directions, size_t directions_len, uint32_t *used, size_t used_len,
                                 uint64_t *counts, size_t counts_len, uint64_t *kind, uint64_t *place);
+
+/* Samples assignments that satisfy a formula, all with the same probability. `by_rounds` is 0 to sample by popping, which
+   takes formulas whose clauses do not clash, as `popsample formula` does. It is 1 to sample by rounds, which takes any
+   formula, as `popsample rounds` does. Sample 0 by rounds is the sample of `popsample rounds` under the same key.
+
+   A row of `values` has one byte for each variable: 1 if it is true, and 0 if it is false. A row of `used` has the number
+   of stack entries of each variable that were passed. `used` is optional. A bad event is a clause that is false. */
+uint32_t popsample_assignments(uint32_t variables, const int32_t *literals, size_t literals_len, uint32_t by_rounds,
+                               const uint8_t *key, size_t key_len, uint32_t height, uint32_t first,
+                               const uint32_t *from, size_t from_len, uint64_t budget,
+                               uint8_t *values, size_t values_len, uint32_t *used, size_t used_len,
+                               uint64_t *counts, size_t counts_len, uint64_t *kind, uint64_t *place);
 
 #ifdef __cplusplus
 }
