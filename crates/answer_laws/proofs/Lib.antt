@@ -77,11 +77,15 @@ mod TallerRounds
 mod MixedAnswers
 mod ExhaustedAnswers
 -- Printed samples. PrintedApart: different ones print different lines. SpanningTrees: each spanning tree is printed.
--- LoopedEdges: loops of a graph that is oriented. PrintedCounts: equally many words print each sample. FoundTrees: what
--- is asked of a log has a witness. ListedOutputs: so these words are finitely many.
+-- LoopedEdges: loops of a graph that is oriented. LikeSamples: what is printed tells the sample, but at loops.
+-- PrintedCounts, PrintedRounds: equally many words print each sample. FoundVertices, FoundTrees: what is asked of a log
+-- has a witness. ListedOutputs: so these words are finitely many.
 pub mod PrintedApart
 mod SpanningTrees
 mod LoopedEdges
+mod LikeSamples
 mod PrintedCounts
+mod PrintedRounds
+mod FoundVertices
 mod FoundTrees
 mod ListedOutputs

@@ -37,8 +37,9 @@ use Rattle.top_call.specs.Answers.{wanted_by}
 use Rattle.answer_laws.specs.ExactAnswers.{frame_over, over_rows}
 use Rattle.answer_laws.specs.ExactOutputs.{AreTelling, AskOver, ListedOutputs, ListedRoundOutputs, PrintsOver}
 use Rattle.answer_laws.proofs.ExactAnswers.{sampled_by, sound_rows}
+use Rattle.answer_laws.proofs.LikeSamples.{IsLike, like_lines, lines_tell}
 use Rattle.answer_laws.proofs.PrintedCounts as P
-use Rattle.answer_laws.proofs.PrintedCounts.{IsLike, like_lines, lines_tell}
+use Rattle.answer_laws.proofs.PrintedRounds as R
 use Rattle.answer_laws.proofs.FoundTrees.{found_witness}
 use Rattle.answer_laws.proofs.ToldSubjects.{ended_subject, quiet_ordered}
 
@@ -155,11 +156,11 @@ listed_outputs job text s heights words ws has is tells light count some ask w i
 -- the law of rounds
 pub listed_round_outputs : ListedRoundOutputs
 listed_round_outputs job text events heights words ws by spelled are count some ask w ok =
-    let g : Frame = P.g job text events heights words ws by spelled are count some ask in
-    let frame = P.g_frame job text events heights words ws by spelled are count some ask in
+    let g : Frame = R.g job text events heights words ws by spelled are count some ask in
+    let frame = R.g_frame job text events heights words ws by spelled are count some ask in
     let every = listed_rounds g frame tt w in (
       every.0,
       same_kind (Sampled g w) (PrintsOver g.weights heights words ws text (FormulaFacts (cnf_of text).variables) w) every.0
-          every.1 (λ rows s. P.sampled_prints job text events heights words ws by spelled are count some ask w rows ok s)
-          (λ rows p. P.prints_sampled job text events heights words ws by spelled are count some ask w rows ok p),
+          every.1 (λ rows s. R.sampled_prints job text events heights words ws by spelled are count some ask w rows ok s)
+          (λ rows p. R.prints_sampled job text events heights words ws by spelled are count some ask w rows ok p),
     )

@@ -16,6 +16,7 @@ pub mod EndedRows
 -- Whole runs: what the records of a log read, and the tables that begin with it
 pub mod Bumps
 pub mod FrontNumbers
+mod RowFronts
 pub mod RunNumbers
 pub mod LogsApart
 -- Batches in which runs of some samples end with none
