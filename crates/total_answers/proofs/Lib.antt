@@ -15,7 +15,8 @@ mod Making
 -- (StuckFound).
 mod CyclesAt
 mod StuckFound
--- Each record of a log has a witness tree (TreesFound).
+-- Each record of a log has a witness tree (TreesFound), of vertices that join one by one (VerticesFound).
+mod VerticesFound
 mod TreesFound
 -- So what is asked for of a log is told (TellingsFound).
 mod TellingsFound

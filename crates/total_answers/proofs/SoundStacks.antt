@@ -6,7 +6,6 @@ use Rattle.std.proofs.lemmas.Option.{none-some, same_Some}
 use Rattle.pop_model.specs.Stacks.{Origin, row_of}
 use Rattle.pop_model.specs.Stacks.Origin.{Given, Keyed}
 use Rattle.pop_model.specs.Places.{IsLeast}
-use Rattle.pop_rows.specs.FlatRows.{row_at}
 use Rattle.pop_stacks.specs.Faults.{IsEmptyRow, IsTooLarge, HaveEntries, AreSoundRows, HasSoundRows, IsTooHeavy, IsSound, IsCause}
 use Rattle.pop_stacks.specs.declared.stack_fault.StackFault.{StackFault}
 use Rattle.pop_stacks.specs.declared.stack_fault.StackFault.TheVariants.{RowCount, EmptyRow, ValueTooLarge, WeightSum}
@@ -41,12 +40,12 @@ heavy_or_light : (origin : Origin) (weights : List (List ℕ)) → HasSoundRows 
     → IsSound origin weights ⊎ ((v : ℕ) × IsCause origin weights (WeightSum v))
 heavy_or_light origin weights rows =
     elim (none_least (IsTooHeavy weights) (length weights)
-    (λ v. decide_both (v < length weights) (2 ^ 32 ≤ sum (row_at weights v)) (decide_lt v (length weights))
-    (decide_le (2 ^ 32) (sum (row_at weights v)))) (λ v h. h.0)) [
+    (λ v. decide_both (v < length weights) (2 ^ 32 ≤ sum (row_of weights v)) (decide_lt v (length weights))
+    (decide_le (2 ^ 32) (sum (row_of weights v)))) (λ v h. h.0)) [
       | inl (v, least) ↦ inr (v, by origin rows v least)
       | inr none ↦ inl (record {
         rows = rows;
-        light = λ v below. elim (cases_lt (sum (row_at weights v)) (2 ^ 32)) [
+        light = λ v below. elim (cases_lt (sum (row_of weights v)) (2 ^ 32)) [
           | inl light ↦ light
           | inr heavy ↦ absurd (none v (below, heavy))
         ];

@@ -24,7 +24,8 @@ use Rattle.told_runs.specs.Witnesses.{Witness, IsWitness}
 use Rattle.told_runs.specs.Witnesses.Witness.{Unasked, Missing, Shown}
 use Rattle.told_runs.proofs.ToldRuns.{in_order}
 use Rattle.prs_rounds.proofs.ClosedSets.{some_below}
-use Rattle.total_answers.proofs.TreesFound.{IsSome, tree_found}
+use Rattle.total_answers.proofs.TreesFound.{tree_found}
+use Rattle.total_answers.proofs.VerticesFound.{IsSome}
 
 -- where a record of a filtered log stands, it stands in the log
 abbrev Stands : List LogRecord → LogRecord → Type 0
