@@ -1,4 +1,4 @@
-//! The laws of calls that are stopped and go on: each function's contract is the law.
+//! Theorems on calls that are stopped and continued. Each is the contract of a function.
 ghost use Rattle.array_calls.specs.Laws.{RoundRowGoesOn, TreeRowGoesOn, ValueRowGoesOn};
 
 /// A call for trees may continue from the row of cursors at which another call stopped. It reaches
@@ -12,8 +12,8 @@ pub fn value_row_goes_on()
     ensures { ValueRowGoesOn }
 {}
 
-/// So does a call for values by rounds, of any listed events, with as many rounds in both calls
-/// together.
+/// The theorem of `tree_row_goes_on` holds for a call for values by rounds, of any listed events,
+/// with rounds in place of pops.
 pub fn round_row_goes_on()
     ensures { RoundRowGoesOn }
 {}

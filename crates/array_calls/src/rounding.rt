@@ -18,14 +18,14 @@ use dimacs_read::formula_of_literals;
 use prs_rounds::RoundSamples;
 use std::alloc::Global;
 
-/// Puts so many assignments of any formula in an array of literals, as many as there are pairs of
-/// counts, into the rows of the arrays, by rounds (Guo, Jerrum and Liu 2019): those of the samples
-/// from the first number on.
+/// Puts assignments of any formula into the rows of the arrays, by rounds (Guo, Jerrum and Liu
+/// 2019). The formula is an array of literals. There is one row for each pair of counts, and row 0
+/// has the sample with the first number.
 ///
-/// The rows are those of `assignments`, but a pair of counts begins with the number of rounds, and
-/// the budget counts rounds, of all rows together. Where it is spent, the call stops at a row in
-/// which events occur, even if no further round can be made there: a call that goes on from that row
-/// of cursors tells the row exhausted then, without a round.
+/// The rows are those of `assignments`, except that a pair of counts begins with the number of
+/// rounds. The budget counts the rounds of all rows together. If it is spent, the call stops at a
+/// row with events that occur, also if no further round can be made there. The next call then finds
+/// the row exhausted, without a round.
 pub fn assignments_by_rounds(
     alloc: Global,
     asked: ArrayFormula,

@@ -8,15 +8,15 @@ use pop_instance::{Cursors, Values};
 use prs_rounds::RoundEnd;
 use std::marker::Model;
 
-// Where a run stands, by popping or by rounds.
+// The state of a run, by popping or by rounds.
 #[derive(Drop)]
 enum KeptEnd {
     Popped(End),
     Rounded(RoundEnd),
 }
 
-/// Where the sample of a row stands. Contracts see an end; where the sample came there by rounds,
-/// its pops are the rounds.
+/// The state of the sample of a row. Contracts see an end. If the sample was made by rounds, its
+/// pops are the rounds.
 #[derive(Drop)]
 pub(crate) struct RowEnd {
     kept: KeptEnd,
@@ -60,7 +60,7 @@ impl RowEnd {
         }
     }
 
-    /// How many pops, or rounds, led there.
+    /// The number of pops, or of rounds, that led there.
     pub(crate) fn pops(&self) -> u64
         ensures { result ≡ self.now.pops }
     {
@@ -70,7 +70,7 @@ impl RowEnd {
         }
     }
 
-    /// How many events occur there.
+    /// The number of events that occur there.
     pub(crate) fn stuck(&self) -> u64
         ensures { result ≡ length self.now.stuck }
     {
@@ -80,7 +80,7 @@ impl RowEnd {
         }
     }
 
-    /// Puts the values there of so many variables, which are below 256.
+    /// Puts the values of this many variables, which are below 256.
     pub(crate) fn put_values(&self, count: u32, numbers: &mut [u8], at: usize)
         requires count { count ≤ length self.now.values }
         requires small { (v : ℕ) → v < count → slice_index self.now.values v < 256 }
@@ -94,7 +94,7 @@ impl RowEnd {
     }
 }
 
-// Puts so many values, which are below 256.
+// Puts this many values, which are below 256.
 fn put_kept(count: u32, values: &Values, numbers: &mut [u8], at: usize)
     requires count { count ≤ length values.now }
     requires small { (v : ℕ) → v < count → slice_index values.now v < 256 }
@@ -106,7 +106,7 @@ fn put_kept(count: u32, values: &Values, numbers: &mut [u8], at: usize)
     }
 }
 
-// Puts so many numbers, which are below 256.
+// Puts this many numbers, which are below 256.
 fn put_numbers(count: u32, items: &[u32], numbers: &mut [u8], at: usize)
     requires count { count ≤ length items.now }
     requires small { (v : ℕ) → v < count → slice_index items.now v < 256 }

@@ -1,10 +1,10 @@
 use crate::row_end::RowEnd;
 
-/// How far the sample of a row came.
+/// The part of a sample's run that was made for a row.
 #[derive(Drop)]
 pub(crate) struct RowPart {
-    /// Where it stands: the pops are those of this part, and the events are those that occur there.
+    /// The state after the part, with the pops of this part and the events that occur there.
     pub at: RowEnd,
-    /// Whether it was stopped there; else it is at its end.
+    /// Whether the run was stopped there. Otherwise it is at its end.
     pub is_open: bool,
 }

@@ -12,7 +12,7 @@ use pop_instance::Cursors;
 use prs_rounds::{RoundEnd, RoundSamples};
 use std::alloc::{AllocError, Global};
 
-/// The samples of listed events that rows have, which are run by popping or by rounds.
+/// The samples of rows for listed events. They are run by popping or by rounds.
 #[derive(Drop)]
 pub(crate) enum RowSamples<'i> {
     ByPopping(Samples<'i>),
@@ -20,8 +20,8 @@ pub(crate) enum RowSamples<'i> {
 }
 
 impl<'i> RowSamples<'i> {
-    /// The run of sample j of so many variables from these cursors, or from its beginning where none
-    /// are given, to its end or to so many pops or rounds.
+    /// The run of sample j from these cursors, or from its beginning if there are none. It goes to
+    /// its end, or up to this many pops or rounds. The sample has `count` variables.
     pub(crate) fn run_part(
         &self,
         alloc: Global,
@@ -86,8 +86,8 @@ fn has_stopped(end: &RoundEnd) -> bool
     }
 }
 
-// The run of sample j by rounds. It is open where so many rounds were made and events occur, even
-// if no further round can be made.
+// The run of sample j by rounds. It is open if this many rounds were made and events occur, also if
+// no further round can be made.
 fn rounded_part(
     alloc: Global,
     count: u32,

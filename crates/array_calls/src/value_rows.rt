@@ -14,7 +14,7 @@ use crate::row_samples::RowSamples;
 use pop_instance::Cursors;
 use std::alloc::{AllocError, Global};
 
-// Puts so many cursors.
+// Puts this many cursors.
 fn put_cursors(count: u32, cursors: &Cursors, numbers: &mut [u32], at: usize)
     requires count { count ≤ length cursors.now }
     requires room { at + count ≤ length numbers.old }
@@ -25,7 +25,7 @@ fn put_cursors(count: u32, cursors: &Cursors, numbers: &mut [u32], at: usize)
     }
 }
 
-// Puts so many cursors, where they are wanted.
+// Puts this many cursors, if they are wanted.
 fn put_wanted_cursors(count: u32, cursors: &Cursors, numbers: &mut [u32], at: usize)
     requires count { count ≤ length cursors.now }
     requires room { (length numbers.old ≡ 0) ⊎ (at + count ≤ length numbers.old) }
@@ -62,7 +62,7 @@ fn put_value_end(
     put_counts(end.pops(), end.stuck(), j, counts);
 }
 
-// Puts where a sample was stopped into its row of cursors and of counts.
+// Puts the state at which a sample was stopped into its row of cursors and of counts.
 fn put_value_stop(count: u32, stop: &RowEnd, j: usize, useds: &mut [u32], counts: &mut [u64])
     requires cursors { count ≤ length stop.now.cursors }
     requires useds { j * count + count ≤ length useds.old }
@@ -75,8 +75,8 @@ fn put_value_stop(count: u32, stop: &RowEnd, j: usize, useds: &mut [u32], counts
     put_counts(stop.pops(), stop.stuck(), j, counts);
 }
 
-/// Puts samples of so many variables into the rows of the arrays, as many as there are pairs of
-/// counts, until the budget is spent. The row at which it was.
+/// Puts samples of this many variables into the rows of the arrays, until the budget is spent. There
+/// is one row for each pair of counts. The result is the row at which the budget was spent.
 pub(crate) fn put_value_samples(
     alloc: Global,
     count: u32,

@@ -37,7 +37,7 @@ fn formula_told(refusal: FormulaRefusal) -> (u32, u64, u64)
     }
 }
 
-// Whether arrays have so many rows of a number for each of so many variables.
+// Whether arrays have this many rows with a number for each variable.
 fn fit_variable_rows(variables: u32, count: usize, values: &[u8], useds: &[u32]) -> bool
     requires { count ≤ 2 ^ 32 }
     ensures { IsTrue result ↔ FitVariableRows variables count values.now useds.now }
@@ -45,8 +45,7 @@ fn fit_variable_rows(variables: u32, count: usize, values: &[u8], useds: &[u32])
     values.len() == count * variables as usize && fits_wanted(variables as usize, count, useds)
 }
 
-// Whether it is a call for assignments, whose arrays have rows for as many samples as there are
-// pairs of counts.
+// Whether it is a call for assignments, with arrays that have one row for each pair of counts.
 fn is_assign_call(
     variables: u32,
     by_rounds: u32,
@@ -106,10 +105,10 @@ fn drawn_by(
     }
 }
 
-/// Draws assignments of the formula in an array of literals, as many as there are pairs of
-/// `counts`, by popping or, where `by_rounds` is 1, by rounds: those of the samples from the number
-/// `first` on, of which the first goes on from the cursors `from`. `kind` and `place` say what was
-/// refused, or `place` at which row the budget was spent.
+/// Draws assignments of the formula in an array of literals, one for each pair of `counts`. They are
+/// drawn by popping, or by rounds if `by_rounds` is 1. Row 0 has the sample with the number `first`,
+/// which continues from the cursors `from`. `kind` and `place` say why the input is rejected. If the
+/// budget was spent, `place` is the row.
 #[unsafe(no_mangle)]
 pub extern "C" fn popsample_assignments(
     alloc: Global,
@@ -127,8 +126,8 @@ pub extern "C" fn popsample_assignments(
     kind: &mut u64,
     place: &mut u64,
 ) -> u32
-    // Each row of the arrays has the end of its sample, within the budget; with status 0 each is an
-    // assignment that satisfies the formula.
+    // Each row of the arrays has the end of its sample, within the budget. With status 0 each row is
+    // an assignment that satisfies the formula.
     ensures rows { result < 2 → EndAssignments variables literals.now by_rounds key.now height first
         from.now budget (length counts.old / 2) (value_arrays values.old useds.old counts.old)
         (value_arrays values.new useds.new counts.new) }
@@ -140,14 +139,14 @@ pub extern "C" fn popsample_assignments(
         first from.now budget (length counts.old / 2) (value_arrays values.old useds.old counts.old)
         (value_arrays values.new useds.new counts.new) place.new }
 
-    // Else the call is wrong, the input is refused, and it is told why, or memory ran out.
+    // Otherwise the call is wrong, or the input is rejected for this reason, or memory ran out.
     ensures usage { (result ≡ 2) ↔ (IsAssignCall variables by_rounds key.now height first from.now
         budget values.old useds.old counts.old → ⊥) }
     ensures refused { 2 < result → result < 9 → AreUnassigned variables literals.now by_rounds
         result kind.new place.new }
     ensures statuses { IsFormulaStatus result }
 
-    // Then the arrays stay as they were, but where memory ran out.
+    // Then the arrays stay as they were, unless memory ran out.
     ensures kept { 2 ≤ result → result < 9 → (values.new ≡ values.old)
         × (useds.new ≡ useds.old) × (counts.new ≡ counts.old) }
     ensures no_kind { (result < 3) ⊎ (9 ≤ result) → kind.new ≡ 0 }

@@ -1,16 +1,16 @@
-//! Laws of totality. Each function's contract is the law.
+//! Theorems of totality. Each is the contract of a function.
 
 ghost use Rattle.total_answers.specs.Totality.{AlwaysAnswered, ValidAnswered};
 
-/// Every line has an answer: all command words, watchers and texts have a status and an output. So
-/// where neither a device nor memory fails, the contract of `run` never asks for what isn't there.
+/// Every line has an answer: all arguments, watchers and texts have a status and an output. So if
+/// neither a device nor memory fails, there always is an answer that `run` can give.
 pub fn every_line_is_answered()
     ensures { AlwaysAnswered }
 {}
 
-/// Valid input has an answer with status 0 or 1, or 10 where it was stopped or is replayed, and no
-/// other. Where a witness is asked for, there is 6 too: its pop may be missing. Input is valid if
-/// nothing stands against it, as `complete` of `answer_laws` says.
+/// Valid input has an answer, with status 0 or 1, or with 10 if it was stopped or is replayed. If a
+/// witness is asked for, the status may also be 6, since its pop may not exist. Input is valid if
+/// none of the errors of `complete` (`answer_laws`) applies to it.
 pub fn valid_input_is_answered()
     ensures { ValidAnswered }
 {}
