@@ -75,8 +75,8 @@ fn put_value_stop(count: u32, stop: &RowEnd, j: usize, useds: &mut [u32], counts
     put_counts(stop.pops(), stop.stuck(), j, counts);
 }
 
-/// Puts samples of this many variables into the rows of the arrays, until the budget is spent. There
-/// is one row for each pair of counts. The result is the row at which the budget was spent.
+/// Puts samples of this many variables into the rows of the arrays, until the budget is spent.
+/// There is one row for each pair of counts. The result is the row at which the budget was spent.
 pub(crate) fn put_value_samples(
     alloc: Global,
     count: u32,

@@ -105,10 +105,10 @@ fn drawn_by(
     }
 }
 
-/// Draws assignments of the formula in an array of literals, one for each pair of `counts`. They are
-/// drawn by popping, or by rounds if `by_rounds` is 1. Row 0 has the sample with the number `first`,
-/// which continues from the cursors `from`. `kind` and `place` say why the input is rejected. If the
-/// budget was spent, `place` is the row.
+/// Draws assignments of the formula in an array of literals, one for each pair of `counts`. They
+/// are drawn by popping, or by rounds if `by_rounds` is 1. Row 0 has the sample with the number
+/// `first`, which continues from the cursors `from`. `kind` and `place` say why the input is
+/// rejected. If the budget was spent, `place` is the row.
 #[unsafe(no_mangle)]
 pub extern "C" fn popsample_assignments(
     alloc: Global,
@@ -126,8 +126,8 @@ pub extern "C" fn popsample_assignments(
     kind: &mut u64,
     place: &mut u64,
 ) -> u32
-    // Each row of the arrays has the end of its sample, within the budget. With status 0 each row is
-    // an assignment that satisfies the formula.
+    // Each row of the arrays has the end of its sample, within the budget. With status 0 each row
+    // is an assignment that satisfies the formula.
     ensures rows { result < 2 → EndAssignments variables literals.now by_rounds key.now height first
         from.now budget (length counts.old / 2) (value_arrays values.old useds.old counts.old)
         (value_arrays values.new useds.new counts.new) }
