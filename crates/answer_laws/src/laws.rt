@@ -33,9 +33,9 @@ pub fn one_ended_answer()
     ensures { OneEndedAnswer }
 {}
 
-/// Arguments and an input have at most one outcome, except for the pops of a resampling, also of
-/// one that is resumed, and for the pops up to a pause. In these cases each outcome is a run of
-/// the same instance to an end or to a pause, with its log.
+/// Arguments and an input have at most one outcome. Two things are free: the pops of a resampling,
+/// also if it is resumed, and the pops up to a pause. In these cases each outcome is a run of the
+/// same instance to an end or to a pause, with its log.
 pub fn one_outcome()
     ensures { OneOutcome }
 {}
@@ -151,9 +151,9 @@ pub fn batch_front()
     ensures { BatchFront }
 {}
 
-/// The answer of `formula`, `orient`, `tree` or `make` under a key with status 0, a sample or a
-/// batch, is also the answer with each greater height, byte for byte. So if stacks were exhausted,
-/// a retry with taller stacks changes no sample.
+/// If an answer of `formula`, `orient`, `tree` or `make` under a key has status 0, it is a sample or
+/// a batch. It is also the answer with each greater height, byte for byte. So if stacks were
+/// exhausted, a retry with taller stacks changes no sample.
 pub fn taller_answers()
     ensures { TallerAnswers }
 {}

@@ -49,8 +49,8 @@ fn deliver<K: Sink>(sink: &mut K, text: &[u8], status: u8) -> u8
 /// - 3 for an invalid input, a wrong number of clauses or rows that do not fit;
 /// - 4 if a limit is exceeded;
 /// - 5 if two events clash;
-/// - 6 for an empty clause, an isolated vertex, a root that is not a vertex or a vertex that is
-///   not connected to the root, and for `resample` if the pop of the witness does not exist;
+/// - 6 for an empty clause, an isolated vertex, a root that is not a vertex, or a vertex that is
+///   cut off from the root. Also for `resample` if the pop of the witness does not exist;
 /// - 7 if reading failed;
 /// - 8 if writing failed;
 /// - 9 if memory ran out;
