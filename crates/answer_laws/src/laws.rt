@@ -151,8 +151,8 @@ pub fn batch_front()
     ensures { BatchFront }
 {}
 
-/// If an answer of `formula`, `orient`, `tree` or `make` under a key has status 0, it is a sample or
-/// a batch. It is also the answer with each greater height, byte for byte. So if stacks were
+/// If an answer of `formula`, `orient`, `tree` or `make` under a key has status 0, it is a sample
+/// or a batch. It is also the answer with each greater height, byte for byte. So if stacks were
 /// exhausted, a retry with taller stacks changes no sample.
 pub fn taller_answers()
     ensures { TallerAnswers }
