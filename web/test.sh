@@ -27,7 +27,7 @@ if [ "$(node -p 'Number(process.versions.node.split(".")[0]) >= 20')" != true ];
     exit 0
 fi
 room=$(mktemp -d)
-trap 'rm -rf "$room"' EXIT
+trap 'wait; rm -rf "$room"' EXIT
 out=$(realpath -m "${1:-$room/out}")
 cd "$(dirname "$0")/.."
 
@@ -80,5 +80,11 @@ check_page() {
 }
 
 build_twice
+# The page is tried beside the package, and tells at the end.
+check_page > "$room/page" 2>&1 &
+page=$!
 check_package
-check_page
+status=0
+wait $page || status=$?
+cat "$room/page"
+exit $status

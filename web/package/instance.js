@@ -4,8 +4,8 @@
 export class NoMemoryError extends Error {}
 
 /**
- * Each call has an instance, and so a memory, of its own, which is let go at its end: what one call leaves, no other one
- * finds. Pointers and lengths have 64 bits in both modules.
+ * Each call has an instance, and so a memory, of its own, which is let go at its end: what one call leaves, no other
+ * one finds. Pointers and lengths have 64 bits in both modules.
  */
 export class Instance {
     #exports;
