@@ -4,8 +4,8 @@
     bench/platforms.py --library crates/popsample_c/out/libpopsample.so --web OUT [--program64 PROGRAM]
 
 OUT is what web/build.sh made, PROGRAM what release/aarch64/build.sh did. A time is the least of the calls in one
-process, without its start; the program under qemu is started anew for each call, and its time has the start. Chromium
-is driven by selenium, so the script is for Debian's /usr/bin/python3.
+process, without its start; the program under qemu is started anew for each call, and its time has the start. It takes
+no arrays. Chromium is driven by selenium, so the script is for Debian's /usr/bin/python3.
 """
 
 from __future__ import annotations
@@ -25,31 +25,40 @@ from typing import Any
 
 TURNS = 7
 MODULES = ("popsample.wasm", "popsample32.wasm")
-JOBS = {"`make grid 300`": ("make", 300), "`tree`, a grid of 224": ("tree", 224)}
+SIZE = 224
+JOBS = {"`make grid 300`": ("make", 300), f"`tree`, a grid of {SIZE}": ("tree", SIZE)}
+ARRAYS = "the same tree, in arrays"
+KEY = bytes(32)
+HEIGHT = 1 << 20
 
-# Times each job in a page or under Node: `load` and `jobs` are given, `told` gets the answer.
+# Times each job in a page or under Node: `popsample`, `jobs`, `ends` and `turns` are given.
 SCRIPT = """
-const times = [];
-for (const [words, text] of jobs) {
-    let least = Infinity;
-    for (let turn = 0; turn < turns; turn++) {
-        const begin = performance.now();
-        popsample.run(words, text);
-        least = Math.min(least, performance.now() - begin);
-    }
-    times.push(least);
-}
+const least = (call) => Math.min(...Array.from({ length: turns }, () => {
+    const begin = performance.now();
+    call();
+    return performance.now() - begin;
+}));
+const times = jobs.map(([words, text]) => least(() => popsample.run(words, text)));
+const graph = Uint32Array.from(ends);
+times.push(least(() => popsample.spanningTree(graph, { key: "0".repeat(64) })));
 """
+
+
+def grid_ends(size: int) -> list[int]:
+    """The ends of the edges of a square grid, one after the other."""
+    ends = []
+    for vertex in range(size * size):
+        if (vertex + 1) % size:
+            ends += [vertex, vertex + 1]
+        if vertex + size < size * size:
+            ends += [vertex, vertex + size]
+    return ends
 
 
 def grid_text(size: int) -> str:
     """The text of a square grid."""
-    edges = []
-    for vertex in range(1, size * size + 1):
-        if vertex % size:
-            edges.append(f"e {vertex} {vertex + 1}\n")
-        if vertex + size <= size * size:
-            edges.append(f"e {vertex} {vertex + size}\n")
+    ends = grid_ends(size)
+    edges = [f"e {ends[at] + 1} {ends[at + 1] + 1}\n" for at in range(0, len(ends), 2)]
     return f"p edge {size * size} {len(edges)}\n{''.join(edges)}"
 
 
@@ -73,7 +82,8 @@ def least(call: Any) -> float:
 
 def by_library(path: Path) -> list[float]:
     """The times of the native library in this process."""
-    run = ctypes.CDLL(str(path)).popsample_run
+    library = ctypes.CDLL(str(path))
+    run = library.popsample_run
     room = ctypes.create_string_buffer(1 << 24)
 
     def call(words: bytes, text: bytes) -> None:
@@ -83,14 +93,37 @@ def by_library(path: Path) -> list[float]:
         assert status == 0, status
 
     spelled = [("".join(f"{word}\0" for word in words).encode(), text.encode()) for words, text in jobs()]
-    return [least(lambda asked=asked: call(*asked)) for asked in spelled]
+    times = [least(lambda asked=asked: call(*asked)) for asked in spelled]
+    return [*times, least(array_call(library))]
+
+
+def array_call(library: ctypes.CDLL) -> Any:
+    """The call of the native library that samples a tree of the grid in arrays."""
+    ends, vertices = grid_ends(SIZE), SIZE * SIZE
+
+    def numbers(kind: Any, *values: int, room: int = 0) -> tuple[Any, Any]:
+        row = (kind * (len(values) + room))(*values)
+        return row, ctypes.c_size_t(len(row))
+
+    none = numbers(ctypes.c_uint32)
+    given = [ctypes.c_uint32(vertices), *numbers(ctypes.c_uint32, *ends), *none, ctypes.c_uint32(0)]
+    no_budget = ctypes.c_uint64(2**64 - 1)
+    drawn = [*numbers(ctypes.c_uint8, *KEY), ctypes.c_uint32(HEIGHT), ctypes.c_uint32(0), *none, no_budget]
+    rows = [part for _ in range(3) for part in numbers(ctypes.c_uint32, room=vertices)]
+    told = [*numbers(ctypes.c_uint64, room=2), (ctypes.c_uint64 * 1)(), (ctypes.c_uint64 * 1)()]
+
+    def call() -> None:
+        status = library.popsample_trees(*given, *drawn, *rows, *told)
+        assert status == 0, status
+
+    return call
 
 
 def by_node(web: Path, module: str) -> list[float] | None:
     """The times under Node; None if it can't run the module."""
     script = f"""
 const {{ load }} = await import({json.dumps((web / "package/index.js").as_uri())});
-const [jobs, turns] = [{json.dumps(jobs())}, {TURNS}];
+const [jobs, ends, turns] = [{json.dumps(jobs())}, {json.dumps(grid_ends(SIZE))}, {TURNS}];
 const popsample = await load(new URL({json.dumps((web / "package" / module).as_uri())}));
 {SCRIPT}
 console.log(JSON.stringify(times));
@@ -124,14 +157,14 @@ def by_chromium(web: Path) -> dict[str, list[float] | None]:
         driver.get(f"http://127.0.0.1:{server.server_port}/package.json")
         for module in MODULES:
             script = f"""
-const [jobs, turns, module, told] = arguments;
+const [jobs, ends, turns, module, told] = arguments;
 import("/index.js").then(async ({{ load }}) => {{
     const popsample = await load(new URL(module, location.href));
     {SCRIPT}
     told(times);
 }}).catch(() => told(null));
 """
-            found[module] = driver.execute_async_script(script, jobs(), TURNS, module)
+            found[module] = driver.execute_async_script(script, jobs(), grid_ends(SIZE), TURNS, module)
     finally:
         driver.quit()
         server.shutdown()
@@ -153,7 +186,9 @@ def by_qemu(program: Path) -> list[float]:
 def row(name: str, path: Path, times: list[float] | None) -> None:
     """Prints a row of the table."""
     content = path.read_bytes()
-    shown = ["doesn't run" if times is None else f"{milliseconds:.0f}" for milliseconds in times or [0.0] * len(JOBS)]
+    wanted = len(JOBS) + 1
+    shown = ["doesn't run"] * wanted if times is None else [f"{milliseconds:.0f}" for milliseconds in times]
+    shown += ["-"] * (wanted - len(shown))
     print(f"| {name} | {len(content)} | {len(gzip.compress(content, 9))} | {' | '.join(shown)} |", flush=True)
 
 
@@ -165,8 +200,8 @@ def main() -> int:
     parser.add_argument("--program64", type=Path)
     words = parser.parse_args()
     web = words.web.resolve()
-    print(f"| form | bytes | gzip -9 | {' | '.join(f'{job}, ms' for job in JOBS)} |")
-    print(f"|{' --- |' * (3 + len(JOBS))}")
+    print(f"| form | bytes | gzip -9 | {' | '.join(f'{job}, ms' for job in [*JOBS, ARRAYS])} |")
+    print(f"|{' --- |' * (4 + len(JOBS))}")
     row("native library, in one process", words.library, by_library(words.library.resolve()))
     chromium = by_chromium(web)
     for module in MODULES:
