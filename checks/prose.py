@@ -5,8 +5,7 @@
 A page fails if a sentence has more than 35 words, if its sentences have more than 22 words in the mean, or if it has
 more than 6 flagged words in 1000: those that docs/development/style.md replaces. A page for users fails if the mean is
 above 18, or if more than 5 of 100 sentences have more than 30 words. Pages, docstrings of the Python package and doc
-comments of the crates are measured; those in `NOT_YET` are measured and cannot fail. Code, tables, headings and links'
-targets are left out.
+comments of the crates are measured. Code, tables, headings and links' targets are left out.
 
 `--all` prints what each part measures, and `--show` prints the longest sentences and the flagged words of one page.
 The status is 0 if nothing failed, 1 if something did, and 2 if the call is wrong.
@@ -30,10 +29,6 @@ FLAGS = re.compile(
 )
 DOCSTRINGS = "docstrings of python/popsample"
 COMMENTS = "doc comments of crates"
-# What is still to be rewritten by the style guide.
-NOT_YET = {
-    COMMENTS,
-}
 # Pages that users read: their sentences are shorter.
 USER_PAGES = ("README.md", "docs/FORMATS.md", "docs/index.md", "docs/tutorial/", "docs/howto/", "docs/reference/")
 USER_MEAN = 18
@@ -166,11 +161,9 @@ def main() -> int:
         return 0
     if given.all:
         print(table(found))
-    judged = [name for name in found if name not in NOT_YET]
-    faults = [f"{name}: {fault}" for name in judged for fault in found[name].faults(name.startswith(USER_PAGES))]
-    faults += [f"{name}: not there, but in the list of pages to rewrite" for name in NOT_YET - set(found)]
+    faults = [f"{name}: {fault}" for name in found for fault in found[name].faults(name.startswith(USER_PAGES))]
     print("\n".join(faults), end="\n" if faults else "")
-    print(f"prose: {len(found) - len(NOT_YET)} pages measured, {len(NOT_YET)} parts not yet covered, {len(faults)} faults")
+    print(f"prose: {len(found)} pages and kinds of comments measured, {len(faults)} faults")
     return int(bool(faults))
 
 

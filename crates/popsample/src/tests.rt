@@ -2,8 +2,8 @@
 //! own, and a gate that holds a worker. What words and a text are answered is tried on the built
 //! program.
 //!
-//! A test ends where memory is wanting, and what owns more than numbers is dropped by a call: so no
-//! function has a way out on which values are left to be dropped part by part.
+//! A test ends if memory runs out. A value that owns more than numbers is dropped by a call. So no
+//! function has an exit at which values are left to be dropped part by part.
 use pop_edge::{MemSink, MemSource};
 use pop_watch::Watch;
 use pop_workers::Gate;
