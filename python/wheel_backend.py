@@ -69,7 +69,7 @@ def standalone(page: str) -> str:
 
     It has no pictures, and the bare text in place of a link to a file.
     """
-    shown = re.sub(r"<p>\n(<img [^>]*>\n)+</p>\n\n", "", page)
+    shown = re.sub(r"<p>\s*(?:<img [^>]*>\s*)+</p>\n\n", "", page)
     return re.sub(r"(?<!!)\[([^][]+)\]\((?!https?:|#)[^()]*\)", r"\1", shown)
 
 
