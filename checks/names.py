@@ -1,15 +1,18 @@
 """Sees that the names and files of which the documents speak are there, so that no page goes stale.
 
-    python3 -B -m checks.names
+    python3 -B -m checks.names [--link]
 
 - Each link of a Markdown page to a file of the repository has its file, and each link to a heading its heading.
 - Each link of the pages on verification that has a name in code font as its text leads to a file that defines the name.
 - In the table of docs/PROVED.md each crate, each public call and each file of definitions is there.
+- On the pages `LINKED` the name of each theorem is a link to the file of its law. In the table of docs/PROVED.md the
+  name of each file of definitions is a link to it. `--link` writes the links that are missing or lead elsewhere.
 
 The status is 0 if all is there, 1 if something is not, and 2 if the call is wrong.
 """
 
 import functools
+import os
 import re
 import sys
 from collections.abc import Iterator
@@ -19,8 +22,15 @@ TOP = Path(__file__).resolve().parents[1]
 LEFT_OUT = {".git", "out", "_build"}
 LINK = re.compile(r"\[((?:[^\[\]]|\[[^\]]*\])*)\]\(([^)\s]+)\)")
 SOURCE = re.compile(r"<!-- source: (\S+) -->")
-# The columns of the table of PROVED.
+PROVED = TOP / "docs" / "PROVED.md"
+VERIFICATION = sorted((TOP / "docs" / "verification").glob("*.md"))
+# The table of PROVED: the line above it, and its columns.
+PROMISES = "| Crate | Proved |"
 COLUMN_CRATE, COLUMN_CALL, COLUMN_SPECS = 0, 2, 3
+# Pages on which the name of each theorem is a link.
+LINKED = (TOP / "README.md", PROVED, TOP / "docs" / "verification" / "index.md")
+NAME = re.compile(r"\[`(\w+)`\]\([^)\s]*\.rt\)|`(\w+)`")
+SPEC = re.compile(r"\[([\w/]+)\]\([^)\s]*\.antt\)|(?<![`(/\w])([\w/]+)")
 
 
 def pages() -> Iterator[Path]:
@@ -75,8 +85,8 @@ def defines(file: Path, name: str) -> bool:
 
 
 def stale_claims() -> Iterator[str]:
-    """Names on the pages of verification that their files do not define."""
-    for page in sorted((TOP / "docs" / "verification").glob("*.md")):
+    """Names on the pages of verification that the files to which they link do not define."""
+    for page in [PROVED, *VERIFICATION]:
         for text, target in LINK.findall(prose_of(page)):
             file = (page.parent / target).resolve()
             named = re.fullmatch(r"`(\w+)`", text)
@@ -85,9 +95,9 @@ def stale_claims() -> Iterator[str]:
 
 
 def rows_of_proved() -> Iterator[list[str]]:
-    """The rows of the table of promises; a row without a crate has that of the row before."""
+    """The rows of the table of promises, without links; a row without a crate has that of the row before."""
     crate = ""
-    _, _, table = (TOP / "docs" / "PROVED.md").read_text(encoding="utf-8").partition("\n| Crate | Proved |")
+    _, _, table = LINK.sub(r"\1", PROVED.read_text(encoding="utf-8")).partition(f"\n{PROMISES}")
     for line in table.partition("\n\n")[0].splitlines()[2:]:
         cells = [cell.strip() for cell in re.split(r"(?<!\\)\|", line)[1:-1]]
         crate = cells[COLUMN_CRATE].strip("`") or crate
@@ -127,12 +137,67 @@ def stale_promises() -> Iterator[str]:
                 yield f"docs/PROVED.md: {folder.relative_to(TOP)} has no {file}"
 
 
+@functools.cache
+def laws() -> dict[str, dict[str, Path]]:
+    """The files of the theorems of each name, by crate: of the public functions in files of laws."""
+    found: dict[str, dict[str, Path]] = {}
+    for file in sorted(TOP.glob("crates/*/src/*laws.rt")):
+        for name in re.findall(r"(?m)^pub fn (\w+)", file.read_text(encoding="utf-8")):
+            found.setdefault(name, {})[file.parents[1].name] = file
+    return found
+
+
+def name_link(match: re.Match[str], page: Path, crate: str = "") -> str:
+    """A name in code font, as a link to the file of its law if it is that of a theorem: of `crate`, if one is given."""
+    name = match[1] or match[2]
+    files = laws().get(name, {})
+    # The name of a crate may be that of a theorem, too.
+    is_crate = match[1] is None and (TOP / "crates" / name).is_dir()
+    if not crate and len(files) == 1 and not is_crate:
+        (crate,) = files
+    return f"[`{name}`]({os.path.relpath(files[crate], page.parent)})" if crate in files else match[0]
+
+
+def spec_link(match: re.Match[str], crate: str) -> str:
+    """The name of a file of definitions in the table of promises, as a link to the file."""
+    shown = match[1] or match[2]
+    there, _, name = shown.rpartition("/")
+    files = list((TOP / "crates" / (there or crate) / "specs").rglob(f"{name}.antt"))
+    return f"[{shown}]({os.path.relpath(files[0], PROVED.parent)})" if len(files) == 1 else match[0]
+
+
+def linked(page: Path) -> list[str]:
+    """The lines of a page, with a link for each name that has one."""
+    lines, crate, promises = page.read_text(encoding="utf-8").splitlines(), "", False
+    for place, line in enumerate(lines):
+        promises = line.startswith(PROMISES) or promises and bool(line)
+        if promises:
+            cells = line.split("|")[1:-1]
+            crate = cells[COLUMN_CRATE].strip(" `") or crate
+            cells[COLUMN_CALL] = NAME.sub(lambda match: name_link(match, page, crate), cells[COLUMN_CALL])
+            cells[COLUMN_SPECS] = SPEC.sub(lambda match: spec_link(match, crate), cells[COLUMN_SPECS])
+            lines[place] = "|".join(["", *cells, ""])
+        else:
+            lines[place] = NAME.sub(lambda match: name_link(match, page), line)
+    return lines
+
+
+def missing_links() -> Iterator[str]:
+    """Names of theorems, and of files of definitions, that are no links to their files."""
+    for page in LINKED:
+        for place, (line, wanted) in enumerate(zip(page.read_text(encoding="utf-8").splitlines(), linked(page)), 1):
+            if line != wanted:
+                yield f"{page.relative_to(TOP)}:{place}: a name is not a link to its file; call checks.names --link"
+
+
 def main() -> int:
     """Runs the call, and returns its status."""
-    if len(sys.argv) > 1:
-        print("usage: python3 -B -m checks.names", file=sys.stderr)
+    if sys.argv[1:] not in ([], ["--link"]):
+        print("usage: python3 -B -m checks.names [--link]", file=sys.stderr)
         return 2
-    faults = [*dead_links(), *stale_claims(), *stale_promises()]
+    for page in LINKED if sys.argv[1:] else ():
+        page.write_text("\n".join(linked(page)) + "\n", encoding="utf-8")
+    faults = [*dead_links(), *stale_claims(), *stale_promises(), *missing_links()]
     print("\n".join(faults), end="\n" if faults else "")
     print(f"names: {len(faults)} that are not there")
     return int(bool(faults))

@@ -4,6 +4,7 @@ The pages are Markdown. A page that consists of the line `<!-- source: PATH -->`
 stands elsewhere in the repository. A link to a file that is no page of the site becomes plain text.
 """
 
+import functools
 import os
 import re
 import sys
@@ -38,8 +39,10 @@ suppress_warnings = ["myst.header"]
 
 SOURCE = re.compile(r"<!-- source: (\S+) -->")
 API = re.compile(r"<!-- names: (\w+) -->")
-STATEMENTS = "<!-- statements -->"
-STATED = re.compile(r"\]\(\.\./\.\./(crates/[^)#]+\.(?:antt|rt))\)")
+# The pages whose names link to files of the crates; the site shows these files on the page that names its text.
+STATED_BY = {"verification": "verification/*.md", "PROVED": "PROVED.md"}
+STATEMENTS = re.compile(r"<!-- statements: (\w+) -->")
+STATED = re.compile(r"\]\((?:\.\./)+(crates/[^)#]+\.(?:antt|rt))\)")
 LINK = re.compile(r"(!?)\[((?:[^\[\]]|\[[^\]]*\])*)\]\(([^)\s]+)\)")
 IMAGE = re.compile(r'(<img src=")([^"]+)"')
 
@@ -54,22 +57,26 @@ def page_sources():
     return pages
 
 
+@functools.cache
 def statement_files():
-    """The files of definitions and laws to which the pages on verification link."""
-    pages = sorted((DOCS / "verification").glob("*.md"))
-    found = [path for page in pages for path in STATED.findall(page.read_text(encoding="utf-8"))]
-    return sorted(set(found))
+    """For each page that names the files of crates: those of definitions and laws that no page before it names."""
+    found, seen = {}, set()
+    for name, pattern in STATED_BY.items():
+        texts = [page.read_text(encoding="utf-8") for page in sorted(DOCS.glob(pattern))]
+        found[name] = sorted({path for text in texts for path in STATED.findall(text)} - seen)
+        seen.update(found[name])
+    return found
 
 
 def label_of(path):
-    """The label of a file on the page of statements."""
+    """The label of a file on the page that shows it."""
     return re.sub(r"[^a-z0-9]+", "-", path.lower())
 
 
-def statements():
+def statements(name):
     """The texts of these files, each below its name."""
-    shown = [f"({label_of(path)})=\n## {path}\n\n```{{literalinclude}} ../../{path}\n```\n" for path in statement_files()]
-    return "\n".join(shown)
+    form = "({label})=\n## {path}\n\n```{{literalinclude}} ../../{path}\n```\n"
+    return "\n".join(form.format(label=label_of(path), path=path) for path in statement_files()[name])
 
 
 def shown_link(match, folder, page, pages):
@@ -80,8 +87,9 @@ def shown_link(match, folder, page, pages):
         return match[0]
     file = (folder / path).resolve()
     file = pages.get(file / "README.md" if file.is_dir() else file, file)
-    if TOP in file.parents and str(file.relative_to(TOP)) in statement_files():
-        return f"[{text}]({label_of(str(file.relative_to(TOP)))})"
+    inside = str(file.relative_to(TOP)) if TOP in file.parents else ""
+    if any(inside in files for files in statement_files().values()):
+        return f"[{text}]({label_of(inside)})"
     if file.suffix != ".md" or DOCS not in file.parents:
         return text if text.startswith("`") or " " in text else f"`{text}`"
     there = os.path.relpath(file, page.parent)
@@ -100,7 +108,7 @@ def read_source(app, name, source):
         blocks[place] = LINK.sub(lambda match: shown_link(match, file.parent, page, pages), blocks[place])
     text = "".join(blocks)
     text = IMAGE.sub(lambda match: f'{match[1]}{os.path.relpath(DOCS, page.parent)}/_images/{Path(match[2]).name}"', text)
-    text = text.replace(STATEMENTS, statements())
+    text = STATEMENTS.sub(lambda match: statements(match[1]), text)
     source[0] = API.sub(lambda match: autodoc_of(match[1]), text)
 
 
