@@ -112,7 +112,7 @@ class Refusal(Error):
 
 
 class InputRefusal(Refusal, ValueError):
-    """The program refused what was passed: the input, or an argument."""
+    """The program rejected what was passed: the input, or an argument."""
 
 
 class ExhaustedError(Refusal):
@@ -153,7 +153,7 @@ class ExhaustedError(Refusal):
 
 
 class Paused(Carried):
-    """The run was stopped after so many pops as were asked for, when an event can still be popped. This is no `Error`.
+    """The run was stopped after the number of pops that was asked for, and can be continued. This is no `Error`.
 
     `certificate` is its certificate, as the bytes of a text: it holds the command, the stacks, the input and the log.
     `key` is the key of the call, or None if rows were given.
@@ -172,7 +172,7 @@ class Paused(Carried):
 
 
 class UsageError(InputRefusal):
-    """The words are no command line: `place` is that of the first bad one, from 1, and `word` is that word."""
+    """The arguments are no command line: the first that is not valid is `word`, at `place`, from 1."""
 
     status = 2
     form = "s USAGE P"
@@ -305,7 +305,7 @@ class TooLongError(InputRefusal):
 
 
 class TooManySamplesError(InputRefusal):
-    """So many samples (`count`) of the input have too many variables together."""
+    """`count` samples of the input have too many variables in total."""
 
     status = 4
     form = "s LIMIT 9 N"
@@ -350,7 +350,7 @@ class EmptyClauseError(InputRefusal):
 
 
 class IsolatedError(InputRefusal):
-    """No edge touches this vertex, the first such."""
+    """The vertex has no edges; it is the first such vertex."""
 
     status = 6
     form = "s ISOLATED V"
@@ -374,7 +374,7 @@ class RootError(InputRefusal):
 
 
 class CutOffError(InputRefusal):
-    """No path joins this vertex, the first such, to the root."""
+    """The vertex is not connected to the root; it is the first such vertex."""
 
     status = 6
     form = "s CUTOFF V"
@@ -388,7 +388,7 @@ class CutOffError(InputRefusal):
 
 
 class NoWitnessError(InputRefusal):
-    """No pop used entry `entry` of the variable, `cursor` of whose entries were popped."""
+    """No pop used entry `entry` of the variable: pops used only its first `cursor` entries."""
 
     status = 6
     form = "witness none V K C"
@@ -418,7 +418,7 @@ class WriteError(Refusal, OSError):
 
 
 class OutOfMemoryError(Refusal, MemoryError):
-    """Memory ran out, or a word isn't UTF-8."""
+    """Memory ran out, or an argument isn't UTF-8."""
 
     status = 9
     form = "s MEMORY"
@@ -477,7 +477,7 @@ class NeedsLibraryError(Error):
 
 
 class NoAnswerError(Error):
-    """The program ended with a status and a text that are none of its answers, as one that was killed."""
+    """The program ended without one of its results, for example since it was killed."""
 
     def __init__(self, status: int, first: str) -> None:
         super().__init__(f"The program ended with status {status}, and {first!r} is none of its answers.")
@@ -485,7 +485,7 @@ class NoAnswerError(Error):
 
 
 class RunTimeoutError(Error, TimeoutError):
-    """A call had no result after so many seconds (`timeout`), and what it ran was ended."""
+    """A call had no result within `timeout` seconds, and what it ran was ended."""
 
     def __init__(self, timeout: float) -> None:
         super().__init__(f"There was no result after timeout={timeout!r} seconds, and the run was ended. Allow more.")
@@ -493,7 +493,7 @@ class RunTimeoutError(Error, TimeoutError):
 
 
 class NotInstalledError(Error, ImportError):
-    """A library that was asked for isn't installed; what doesn't ask for it needs none."""
+    """A package that the call needs isn't installed. Other calls don't need it."""
 
     def __init__(self, library: str, otherwise: str = ", or take the samples one by one") -> None:
         super().__init__(f"{library} isn't installed, and this needs it. Install it{otherwise}.")
