@@ -58,32 +58,39 @@ function settings() {
         : { ...common, what, count: byId("count").value, text };
 }
 
+// Gives a control a value, unless it takes no such value.
+function put(id, value) {
+    const control = byId(id);
+    const before = control.value;
+    control.value = value;
+    if (control.value !== value) control.value = before;
+}
+
 // Puts the settings of the address into the controls.
 function setControls(wanted) {
     const radio = document.querySelector(`[name=mode][value="${CSS.escape(wanted.mode ?? "maze")}"]`);
     if (radio) radio.checked = true;
-    for (const id of ["size", "what", "root", "count"]) if (wanted[id] !== undefined) byId(id).value = wanted[id];
+    for (const id of ["size", "what", "root", "count"]) {
+        if (wanted[id] !== undefined) put(id, wanted[id]);
+    }
     byId("key").value = KEY.test(wanted.key ?? "") ? wanted.key : randomKey();
     if (wanted.text !== undefined) byId(isOfFormula() ? "formula" : "graph").value = wanted.text;
     showMode();
 }
 
-// The arguments and the input that the controls ask for.
-function asked() {
-    if (mode() === "maze") return { words: ["tree"], text: writeGraph(grid(Number(byId("size").value))) };
-    if (mode() === "formula") return { words: ["formula"], text: byId("formula").value };
-    const words = byId("what").value === "orient" ? ["orient"] : ["tree", "--root", byId("root").value];
-    return { words, text: byId("graph").value };
+// The arguments and the input for these settings.
+function asked({ mode, size, what, root, text }) {
+    if (mode === "maze") return { words: ["tree"], text: writeGraph(grid(Number(size))) };
+    if (mode === "formula") return { words: ["formula"], text };
+    return { words: what === "orient" ? ["orient"] : ["tree", "--root", root], text };
 }
 
-// What is drawn of a text that popsample took.
-function subjectOf(text) {
-    if (mode() === "maze") return new MazeSubject(Number(byId("size").value));
-    if (mode() === "formula") return new FormulaSubject(text);
-    const graph = readGraph(text);
-    return byId("what").value === "orient"
-        ? new OrientationSubject(graph)
-        : new TreeSubject(graph, Number(byId("root").value));
+// What is drawn for settings whose text popsample accepted.
+function subjectOf({ mode, size, what, root, text }) {
+    if (mode === "maze") return new MazeSubject(Number(size));
+    if (mode === "formula") return new FormulaSubject(text);
+    if (what === "orient") return new OrientationSubject(readGraph(text));
+    return new TreeSubject(readGraph(text), Number(root));
 }
 
 function setBusy(busy) {
@@ -114,25 +121,26 @@ function stepsOf(output) {
     return `${count} ${steps}${count === "1" ? "" : "s"}`;
 }
 
-async function call(words, text) {
-    const answer = await sampler.run([...words, "--key", byId("key").value], text);
+async function call(words, text, key) {
+    const answer = await sampler.run([...words, "--key", key], text);
     byId("label").textContent = answer.label;
     byId("output").textContent = answer.output.slice(0, 100000);
     return answer;
 }
 
 // Samples a subject with its log, shows the sample, and says whether the replayed run ends there.
-async function showSample() {
-    const { words, text } = asked();
-    let answer = await call([...words, "--log", "on"], text);
+// The controls may change before that.
+async function showSample(wanted) {
+    const { words, text } = asked(wanted);
+    let answer = await call([...words, "--log", "on"], text, wanted.key);
     let note = "";
-    if (answer.status === CLASH && mode() === "formula") {
+    if (answer.status === CLASH && wanted.mode === "formula") {
         note = " Clauses of this formula clash, so it was sampled by rounds, which have no pops to play.";
-        answer = await call(["rounds"], text);
+        answer = await call(["rounds"], text, wanted.key);
     }
     showRefusal(answer.refusal);
     if (answer.refusal !== null) return;
-    const subject = subjectOf(text);
+    const subject = subjectOf(wanted);
     const sample = subject.sampled(answer.output);
     byId("said").textContent = `${subject.told()}; ${stepsOf(answer.output)}, ${timed(answer.milliseconds)} ms.${note}`;
     if (note !== "") {
@@ -141,25 +149,23 @@ async function showSample() {
         shown();
         return;
     }
-    const run = new Run(subject, byId("key").value, answer.output);
+    const run = new Run(subject, wanted.key, answer.output);
     shown = () => player.redraw();
     player.load(run, subject);
     if (run.values.some((value, i) => value !== sample[i])) showRefusal("The replayed run ends at another sample.");
 }
 
-async function showHistogram() {
-    const command = byId("what").value;
-    const { text } = settings();
-    const total = Number(byId("count").value);
-    const answer = await call([command, "--count", String(total)], text);
+async function showHistogram({ what, count, text, key }) {
+    const total = Number(count);
+    const answer = await call([what, "--count", count], text, key);
     showRefusal(answer.refusal);
     if (answer.refusal !== null) return;
-    const outcomes = outcomesOf(command, text);
+    const outcomes = outcomesOf(what, text);
     if (outcomes === null) {
         showRefusal(`All outcomes are listed for at most ${MOST} edges or variables: use a smaller input.`);
         return;
     }
-    const counts = countsOf(command, text, answer.output);
+    const counts = countsOf(what, text, answer.output);
     const sum = outcomes.reduce((all, { weight }) => all + weight, 0);
     const rows = outcomes.map((outcome) => {
         return { ...outcome, expected: (total * outcome.weight) / sum, count: counts.get(outcome.bits) ?? 0 };
@@ -173,17 +179,20 @@ async function showHistogram() {
 }
 
 async function sample() {
-    if (!KEY.test(byId("key").value)) {
+    const turn = ++turns;
+    const wanted = settings();
+    if (!KEY.test(wanted.key)) {
+        sampler.stop();
+        setBusy(false);
         showRefusal("A key has 64 hexadecimal digits.");
         return;
     }
-    const fits = writeAddress(settings());
+    const fits = writeAddress(wanted);
     byId("link").href = location.href;
     byId("link").textContent = fits ? "Link to this sample" : "Link with this key; the input is too long for a link";
-    const turn = ++turns;
     setBusy(true);
     try {
-        await (mode() === "histogram" ? showHistogram() : showSample());
+        await (wanted.mode === "histogram" ? showHistogram(wanted) : showSample(wanted));
     } catch (error) {
         // A call that a later one stopped has nothing to say.
         if (turn !== turns) return;

@@ -303,6 +303,27 @@ class UseTest(PageTest):
         self.write("key", "12")
         self.wait(lambda: "64 hexadecimal digits" in self.text("refused"))
 
+    def test_a_wrong_key_stops_the_run(self) -> None:
+        self.open(mode="graph", what="orient", key=KEY)
+        self.write("graph", PATH)
+        self.wait(lambda: self.by_id("stop").is_enabled())
+        self.write("key", "12")
+        self.assertEqual(self.settled(), "No sample.")
+        self.assertFalse(self.by_id("progress").is_displayed())
+
+    def test_a_control_may_change_while_a_sample_is_drawn(self) -> None:
+        self.open(mode="graph", what="tree", key=KEY)
+        submit = "document.getElementById('controls').requestSubmit();"
+        change = "for (const id of ['key', 'root']) document.getElementById(id).value = '99';"
+        self.driver.execute_script(submit + change)
+        self.assertIn("A spanning tree of 5 vertices", self.settled())
+        self.assertFalse(self.by_id("refused").is_displayed())
+
+    def test_a_broken_link_leaves_the_controls_as_they_are(self) -> None:
+        said = self.open(mode="labyrinth", size="17", count="x", key="12")
+        self.assertIn("A maze of 24 by 24 cells", said)
+        self.assertRegex(self.by_id("key").get_attribute("value"), "^[0-9a-f]{64}$")
+
     def test_a_link_gives_the_sample_again(self) -> None:
         text = "p edge 4 5\nv 1 100 100\nv 2 900 100\nv 3 900 900\nv 4 100 900\ne 1 2\ne 2 3\ne 3 4\ne 4 1\ne 1 3 5\n"
         self.open(mode="graph", what="tree", root="3", text=text)
