@@ -61,6 +61,7 @@ lay_out_package() {
     mkdir -p "$out/package"
     cp -r package/. "$out/package"
     node sentences.mjs > "$out/package/sentences.js"
+    ../release/copyright.py > "$out/package/copyright"
     link_module vectors "$out/package/popsample.wasm"
     lower_module "$out/package/popsample32.wasm"
     node label.mjs "$out/package/popsample.wasm"
@@ -71,6 +72,7 @@ lay_out_site() {
     mkdir -p "$out/site/popsample"
     cp -r page/. "$out/site"
     cp "$out"/package/*.{js,wasm} "$out/site/popsample"
+    cp "$out/package/copyright" "$out/site/popsample/copyright.txt"
 }
 
 lay_out_toolchain

@@ -51,6 +51,10 @@ check_package() {
     mkdir "$room/user"
     (cd "$room/user" && npm install --silent --offline --no-audit --no-fund "$room"/popsample-*.tgz > /dev/null)
     release/first_output.sh "$room/user/node_modules/.bin/popsample"
+    if [[ $(< "$room/user/node_modules/popsample/copyright") != *"$(< LICENSE)"* ]]; then
+        echo "web/test.sh: the package's copyright doesn't have the text of LICENSE" >&2
+        exit 1
+    fi
     for module in popsample popsample32; do
         if node -e 'process.exit(WebAssembly.validate(require("fs").readFileSync(process.argv[1])) ? 0 : 1)' \
             "$out/package/$module.wasm"; then
