@@ -43,7 +43,7 @@ pub fn sample_claimed<R: Threads + Sync, G: Gate + Sync>(
 {
     let opening = opening_from(alloc, instance, from, keep)?;
     let crew = Workers { rt, gate, workers };
-    let Ok(mut makers) = Makers::of(alloc, instance, crew, true) else {
+    let Ok(mut makers) = Makers::of(alloc, instance, crew) else {
         drop(opening);
         return Err(AllocError);
     };

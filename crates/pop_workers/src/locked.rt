@@ -5,8 +5,11 @@ ghost use Rattle.pop_model.specs.Popping.{AreWithin};
 ghost use Rattle.confluence_core.specs.Kept.{keeps_log};
 ghost use Rattle.confluence_core.specs.Runs.{IsRunOf};
 ghost use Rattle.confluence_core.specs.Stretches.{HasCome, IsReached};
+ghost use Rattle.pop_workers.specs.Locks.{MayWork, IsWorkOf};
 
 use crate::attempts::attempt_in_turns;
+use crate::book_work::BookWork;
+use crate::lock_by::LockBy;
 use crate::makers::Makers;
 use crate::opening::opening_from;
 use crate::workers::Workers;
@@ -15,6 +18,7 @@ use confluence_core::{Keep, Reached, Units};
 use lock_board::{Book, Site};
 use pop_instance::{Cursors, Instance};
 use std::alloc::{AllocError, Global};
+use std::marker::Brand;
 use std::sync::{Mutex, Wait};
 use std::thread;
 use std::thread::Threads;
@@ -46,16 +50,45 @@ pub fn sample_locked<R: Threads + Wait + Sync, G: Gate + Sync>(
 {
     let opening = opening_from(alloc, instance, from, keep)?;
     let crew = Workers { rt, gate, workers };
-    let Ok(makers) = Makers::of(alloc, instance, crew, false) else {
+    let Ok(makers) = Makers::of(alloc, instance, crew) else {
         drop(opening);
         return Err(AllocError);
     };
-    makers.run(alloc, instance, opening)
+    let work = |work: BookWork| -> Result<Reached, AllocError>
+        requires { MayWork work }
+        ensures { IfOk result (IsWorkOf work.entry) }
+    { work_locked(rt, gate, work) };
+    let lock = LockBy { work: &work };
+    makers.run(alloc, instance, opening, Some(&lock))
 }
 
-/// How far workers come on a book that they share, and that opens where a run has come, with every
-/// unit a suspect.
-pub(crate) fn work_together<N: Site + Send + Sync, R: Threads + Wait + Sync, G: Gate + Sync>(
+/// The work of workers that share a book under a lock. The book opens where the run has come, and
+/// the result is the stretch that it adds, with every unit a suspect. The error is returned only if
+/// the caller found no memory.
+///
+/// Each worker has a thread of its own, if one can be started. The caller does the work of the
+/// others itself. All threads are joined.
+pub fn work_locked<R: Threads + Wait + Sync, G: Gate + Sync>(
+    rt: &R,
+    gate: &G,
+    work: BookWork,
+) -> Result<Reached, AllocError>
+    requires { MayWork work }
+    ensures { IfOk result (IsWorkOf work.entry) }
+{
+    let BookWork {
+        alloc,
+        workers,
+        instance,
+        reached,
+    } = work;
+    let crew = Workers { rt, gate, workers };
+    work_together::<Brand, R, G>(alloc, &crew, instance, reached)
+}
+
+// How far workers come on a book that they share, and that opens where a run has come, with every
+// unit a suspect.
+fn work_together<N: Site + Send + Sync, R: Threads + Wait + Sync, G: Gate + Sync>(
     alloc: Global,
     crew: &Workers<R, G>,
     instance: &Instance,

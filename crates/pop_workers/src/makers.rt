@@ -1,4 +1,4 @@
-ghost use Rattle.std.specs.Prelude.{◌≡◌, ◌<◌, ◌≤◌, ℕ, Bool, List, length, IfOk, OnOk};
+ghost use Rattle.std.specs.Prelude.{◌≡◌, ◌<◌, ◌≤◌, ℕ, Bool, List, length, IfOk, IfSome, OnOk};
 ghost use Rattle.std.specs.Option.{is_some};
 ghost use Rattle.pop_model.specs.Stacks.{variables_of};
 ghost use Rattle.pop_model.specs.Popping.{AreWithin, AreValuesAt};
@@ -10,8 +10,9 @@ ghost use Rattle.confluence_core.specs.Stretches.{CanGoOn, GoesOn, HasCome, HasE
 ghost use Rattle.pop_workers.specs.AtWork.{IsIdleOn, IsSoleOn, IsAtEnd};
 ghost use Rattle.pop_workers.specs.Serving.{Serves};
 
+use crate::book_work::BookWork;
 use crate::claimed::left_by;
-use crate::locked::work_together;
+use crate::lock::Lock;
 use crate::tools::Tools;
 use crate::words::work_by;
 use crate::workers::Workers;
@@ -24,20 +25,18 @@ use std::alloc::{AllocError, Global};
 use std::marker::{Brand, Model};
 use std::mem;
 use std::snapshot::Snapshot;
-use std::sync::Wait;
 use std::thread::Threads;
 
-/// Who brings runs to their ends: one worker, the caller, behind the gate and with no board;
-/// several, who claim words of a board; or several, who share a book under a lock. What several
-/// leave, the calling thread pops. The values at an end are looked up by the readers of all who
-/// claimed words, which keep what they saw.
+/// Who brings runs to their ends. One worker is the caller, after the gate and without a board.
+/// Several share a book under a lock, if a call gets one, and otherwise they claim words of a
+/// board. What several leave, the calling thread pops. The values at an end are looked up by the
+/// readers of all who claimed words, which keep what they saw.
 ///
 /// They were made for an instance, and serve it for the same sample at each height, so also once
 /// its stacks are raised. Contracts see that instance.
 #[derive(Drop)]
 pub struct Makers<'c, R, G> {
     crew: Workers<'c, R, G>,
-    claimed: bool,
     index: Option<Index>,
     reader: Reader,
     others: Vec<Reader>,
@@ -61,20 +60,18 @@ impl<'c, R, G> Model for Makers<'c, R, G> {
 }
 
 impl<'c, R, G> Makers<'c, R, G> {
-    /// A crew for an instance: one worker alone; several claim words, where `claimed` says so, or
-    /// else share a book under a lock.
+    /// A crew for an instance.
     pub fn of(
         alloc: Global,
         instance: &Instance,
         crew: Workers<'c, R, G>,
-        claimed: bool,
     ) -> Result<Makers<'c, R, G>, AllocError>
         requires some { 0 < crew.workers }
         requires most { crew.workers ≤ 64 }
         ensures { IfOk result (λ makers. makers ≡ instance.now) }
     {
         let index = instance.index(alloc)?;
-        Makers::with(alloc, instance, index, crew, claimed)
+        Makers::with(alloc, instance, index, crew)
     }
 
     /// The same with the index of the family, which is at hand.
@@ -83,7 +80,6 @@ impl<'c, R, G> Makers<'c, R, G> {
         instance: &Instance,
         index: Option<Index>,
         crew: Workers<'c, R, G>,
-        claimed: bool,
     ) -> Result<Makers<'c, R, G>, AllocError>
         requires index { IsFamilyIndex instance.now.family index }
         requires some { 0 < crew.workers }
@@ -92,7 +88,6 @@ impl<'c, R, G> Makers<'c, R, G> {
     {
         Ok(Makers {
             crew,
-            claimed,
             index,
             reader: Reader::keeping(alloc, instance.stacks())?,
             others: Vec::new(alloc),
@@ -259,45 +254,56 @@ impl<'c, R: Threads + Sync, G: Gate + Sync> Makers<'c, R, G> {
         self.others = others;
         Ok(())
     }
-}
 
-impl<'c, R: Threads + Wait + Sync, G: Gate + Sync> Makers<'c, R, G> {
-    /// Goes on with a run to an end, and looks up what is stuck there. After an error nothing is
-    /// left of the run.
-    pub fn stage(
+    /// Continues a run to an end, and finds the events that are stuck there. Several workers share
+    /// a book if there is a lock, and claim words otherwise. After an error nothing is left of the
+    /// run.
+    pub fn stage<L: Lock>(
         &mut self,
         alloc: Global,
         instance: &Instance,
         reached: Reached,
+        lock: Option<&L>,
     ) -> Result<(Reached, Stuck), AllocError>
         requires serves { Serves instance.now self.old }
         requires reached { HasCome instance.now reached }
+        requires lock { IfSome lock (λ l. L.fits l.now) }
         ensures on { IfOk result (λ stage. GoesOn instance.now reached stage.0) }
         ensures end { IfOk result (λ stage. HasEnded instance.now stage.0 stage.1) }
         ensures made_for { self.new ≡ self.old }
     {
-        if self.claimed || self.crew.workers == 1 {
-            return self.claimed_stage(alloc, instance, reached);
+        match lock {
+            Some(lock) if self.crew.workers > 1 => {
+                let more = lock.work(BookWork {
+                    alloc,
+                    workers: self.crew.workers,
+                    instance,
+                    reached: &reached,
+                })?;
+                self.end_behind(alloc, instance, reached, more)
+            }
+            _ => self.claimed_stage(alloc, instance, reached),
         }
-        let more = work_together::<Brand, R, G>(alloc, &self.crew, instance, &reached)?;
-        self.end_behind(alloc, instance, reached, more)
     }
 
-    /// Brings a run to its end, and tells it.
-    pub fn run(
+    /// Continues a run to its end, and returns its result. Several workers share a book if there is
+    /// a lock, and claim words otherwise.
+    pub fn run<L: Lock>(
         self,
         alloc: Global,
         instance: &Instance,
         reached: Reached,
+        lock: Option<&L>,
     ) -> Result<Outcome, AllocError>
         requires serves { Serves instance.now self }
         requires reached { HasCome instance.now reached }
+        requires lock { IfSome lock (λ l. L.fits l.now) }
         ensures on { IfOk result (λ run. GoesOn instance.now reached (ended run)) }
         ensures run { (start : List ℕ) → (keeps : Bool) → IsReached instance.now start keeps reached
             → IfOk result (IsRunOf instance.now start keeps) }
     {
         let mut makers = self;
-        let Ok(end) = makers.stage(alloc, instance, reached) else {
+        let Ok(end) = makers.stage(alloc, instance, reached, lock) else {
             drop(makers);
             return Err(AllocError);
         };

@@ -15,6 +15,7 @@ use top_call::{Answer, run};
 
 mod alone;
 mod faults;
+mod locks;
 mod watchers;
 mod workers;
 

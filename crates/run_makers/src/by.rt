@@ -10,7 +10,6 @@ use pop_print::{Facts, text_of_batch};
 use pop_workers::Outcome;
 use prs_rounds::{RoundEnd, run_rounds};
 use std::alloc::{AllocError, Global};
-use std::sync::Wait;
 use std::thread::Threads;
 
 /// A maker with a runtime, whose threads make batches and rounds, and with closures that make a
@@ -28,7 +27,7 @@ impl<
     'r,
     'a,
     'b,
-    R: Threads + Wait + Sync,
+    R: Threads + Sync,
     A: Fn(Stages) -> Result<(Outcome, Instance), AllocError>,
     B: Fn(Stretch) -> Result<Outcome, AllocError>,
 > Maker for By<'r, 'a, 'b, R, A, B> {

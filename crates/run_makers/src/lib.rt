@@ -15,7 +15,7 @@ pub use alone::Alone;
 pub use by::By;
 pub use crew::Crew;
 pub use maker::Maker;
-pub use on_threads::{makers_of, run_in_stages};
+pub use on_threads::{lock_of, makers_of, run_in_stages};
 pub use opening::Opening;
 pub use stages::Stages;
 pub use stretch::Stretch;

@@ -20,6 +20,8 @@ pub mod ApartWords
 pub mod PauseWords
 pub mod BatchWords
 pub mod BatchEnds
+-- AskedLocks: arguments that ask for a lock
+mod AskedLocks
 -- Statuses: which a text is answered by. FrontTexts: one refusal of a text past the limit and of its front.
 mod Statuses
 mod FrontTexts

@@ -6,3 +6,4 @@ pub mod Resumes
 pub mod Accepted
 pub mod Answers
 pub mod TopCall
+pub mod Locks

@@ -5,6 +5,7 @@
 
 mod accepted;
 mod answer;
+mod asking;
 mod checking;
 mod pausing;
 mod replaying;
@@ -12,6 +13,9 @@ mod resuming;
 mod sampling;
 mod top;
 mod whole;
+mod with_lock;
 
+pub use asking::ask_for_lock;
 pub use job_subjects::Answer;
 pub use top::{answer_alone, run};
+pub use with_lock::run_with;

@@ -1,11 +1,10 @@
 //! The top call: command words and bytes in, bytes and a status out.
-ghost use Rattle.std.specs.Prelude.{◌≡◌, ◌≢◌, ◌⊎◌, ◌≤◌, ℕ, List, Some, map, string_bytes, IfOk};
+ghost use Rattle.std.specs.Prelude.{◌≡◌, ◌⊎◌, ◌≤◌, ℕ, List, Some, map, string_bytes, IfOk};
 ghost use Rattle.std.specs.Io.KnownBytes.{Appends, IsAtEnd};
 ghost use Rattle.pop_model.specs.Faults.{Rose};
-ghost use Rattle.pop_edge.specs.Devices.{AppendsFront};
 ghost use Rattle.pop_words.specs.CommandLines.{AreWords, Asks};
 ghost use Rattle.pop_words.specs.declared.job.Job.{Job};
-ghost use Rattle.run_makers.specs.Makers.{MayGrow, IsRunInStages, MayGoOn, IsBroughtOn};
+ghost use Rattle.pop_workers.specs.Locks.{MayWork, IsWorkOf};
 ghost use Rattle.job_subjects.specs.Refusals.{refusal_line};
 ghost use Rattle.job_subjects.specs.declared.refusal.Refusal.TheVariants.{Stopped};
 ghost use Rattle.job_subjects.specs.declared.stop.Stop.TheVariants.{ReadFault, OutOfMemory};
@@ -14,29 +13,16 @@ ghost use Rattle.top_call.specs.Answers.{AskForGrid, IsAnswer, IsInput, WasReadW
 ghost use Rattle.top_call.specs.TopCall.{IsBreak, Answered, AnsweredUsage, HasReadFault, IsCutShort, IsUsageCutShort};
 
 use crate::answer::answer_to;
+use crate::with_lock::run_with;
+use confluence_core::Reached;
 use job_subjects::{Answer, Stop};
-use pop_edge::{Sink, SliceSource, Source, put_all};
-use pop_instance::Instance;
+use pop_edge::{Sink, SliceSource, Source};
 use pop_watch::Watch;
-use pop_workers::{Gate, Outcome};
-use run_makers::{Alone, By, Stages, Stretch, makers_of, run_in_stages};
+use pop_workers::{BookWork, Gate, LockBy, work_locked};
+use run_makers::Alone;
 use std::alloc::{AllocError, Global};
 use std::sync::Wait;
 use std::thread::Threads;
-
-// Writes the output. Returns the status, or 8 if the sink failed.
-fn deliver<K: Sink>(sink: &mut K, text: &[u8], status: u8) -> u8
-    requires { status ≢ 8 }
-    ensures status { (result ≡ status) ⊎ (result ≡ 8) }
-    ensures held { result ≢ 8 → Appends (K.holds sink.old) (K.holds sink.new) text.now }
-    ensures cut { result ≡ 8 → AppendsFront (K.holds sink.old) (K.holds sink.new) text.now }
-    ensures fault { result ≡ 8 → Rose (K.faults sink.old) (K.faults sink.new) }
-{
-    match put_all(sink, text) {
-        Ok(()) => status,
-        Err(_) => 8,
-    }
-}
 
 /// Runs the command of the arguments on the input of the source, and writes the output to the
 /// sink. The whole output is made before its first byte is written.
@@ -153,34 +139,12 @@ pub fn run<S: Source, K: Sink, R: Threads + Wait + Sync, G: Gate + Sync>(
         → (IsBreak result → ⊥)
         → WasReadWhole job.pops job.command (S.left source.old) (S.left source.new) }
 {
-    let stages = |stages: Stages| -> Result<(Outcome, Instance), AllocError>
-        requires { MayGrow stages }
-        ensures { IfOk result (IsRunInStages stages) }
-    { run_in_stages(rt, gate, stages) };
-    let finish = |stretch: Stretch| -> Result<Outcome, AllocError>
-        requires { MayGoOn stretch.instance.now stretch.at_hand stretch.reached }
-        ensures { IfOk result (IsBroughtOn stretch.entry.instance.now stretch.entry.reached) }
-    {
-        let Stretch {
-            alloc,
-            crew,
-            instance,
-            at_hand,
-            reached,
-        } = stretch;
-        let makers = makers_of(rt, gate, alloc, crew, instance, at_hand)?;
-        makers.run(alloc, instance, reached)
-    };
-    let by = By {
-        rt,
-        stages: &stages,
-        finish: &finish,
-    };
-    match answer_to(&by, alloc, words, watchers, source) {
-        Ok(answer) => deliver(sink, &answer.text, answer.status),
-        Err(Stop::ReadFault) => deliver(sink, b"s READFAULT\n", 7),
-        Err(Stop::OutOfMemory) => deliver(sink, b"s MEMORY\n", 9),
-    }
+    let work = |work: BookWork| -> Result<Reached, AllocError>
+        requires { MayWork work }
+        ensures { IfOk result (IsWorkOf work.entry) }
+    { work_locked(rt, gate, work) };
+    let lock = LockBy { work: &work };
+    run_with(rt, alloc, words, watchers, gate, Some(&lock), source, sink)
 }
 
 /// The answer to the arguments and the bytes of an input. It is the status that `run` returns and

@@ -13,7 +13,7 @@ returns g c =
     let s = c.args.stages in
     let at : c.raise.new.self ≡ instance_raised s.last s.instance =
     c.raise.ensures ∙ ap (instance_raised s.last) c.in_ok-run.ensures.raised
-    ∙ raised_twice s.instance s.last (height c.sample_grown.new.instance) in
+    ∙ raised_twice s.instance s.last (height c.sample_in_stages.new.instance) in
     record {
       instance = at;
       run = subst (λ (x : Instance). IsRunOf x (start_of x) (keeps_log s.keep) c.in_ok-run.run') (sym at)

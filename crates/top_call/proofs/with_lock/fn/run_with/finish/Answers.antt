@@ -2,7 +2,7 @@ use Rattle.std.proofs.Common.{sym, subst}
 use Rattle.pop_workers.specs.Serving.{Serves}
 use Rattle.pop_workers.proofs.Serving.{serves_itself}
 use Rattle.run_makers.proofs.Brought.{brought}
-use Rattle.top_call.proofs.top.fn.run.finish.Goals as goal
+use Rattle.top_call.proofs.with_lock.fn.run_with.finish.Goals as goal
 
 -- they were made for the instance
 pub run-requires-clause-serves : goal.run-requires-clause-serves

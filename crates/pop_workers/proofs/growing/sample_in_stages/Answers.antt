@@ -5,7 +5,7 @@ use Rattle.confluence_core.specs.declared.run.Run.{Run}
 use Rattle.pop_workers.proofs.Serving.{serves_itself}
 use Rattle.pop_workers.specs.Stages.{IsLast}
 use Rattle.pop_workers.proofs.StageTurns.{run_at_last, stages_told}
-use Rattle.pop_workers.proofs.growing.sample_grown.Goals as goal
+use Rattle.pop_workers.proofs.growing.sample_in_stages.Goals as goal
 
 pub all_stages-requires-clause-serves : goal.all_stages-requires-clause-serves
 all_stages-requires-clause-serves g c κs within =

@@ -1,7 +1,7 @@
 use Rattle.std.proofs.Common.{inl, inr, Err, map, string_bytes, ap, subst}
 use Rattle.pop_edge.specs.Devices.{AppendsFront}
 use Rattle.top_call.proofs.HeldAnswers.{held_answer, not_unwritten, delivered_status, delivered_run}
-use Rattle.top_call.proofs.top.run.Goals as goal
+use Rattle.top_call.proofs.with_lock.run_with.Goals as goal
 
 -- the sink took the answer's text
 pub returns-in-Ok-clause-answer : goal.returns-in-Ok-clause-answer
