@@ -7,8 +7,9 @@
 # and to need nothing of others but memory; each status is made, with too little room, with memory that is refused and on
 # many threads, under valgrind where it is installed; the rows of calls with arrays are compared with the text of the same
 # samples; the program over the library is tried on the examples, as popsample is; and the examples that call it from C,
-# and from R and Julia where these are installed, draw the program's tree. It takes a C compiler and Python. CROSS is the
-# prefix of the compiler and the binutils for libraries of another machine, whose programs release/runnable.sh has run.
+# and from R and Julia where these are installed, draw the program's tree and solutions. It takes a C compiler and Python.
+# CROSS is the prefix of the compiler and the binutils for libraries of another machine, whose programs
+# release/runnable.sh has run.
 #
 # The status is 0 where all is well, 1 where something isn't, and 2 where the call is wrong.
 set -euo pipefail
@@ -99,33 +100,44 @@ draws_a_tree() {
     echo "example in $1: ok"
 }
 
+# An example prints the solutions that the program prints, by popping, and by rounds if clauses clash: NAME COMMAND..
+draws_solutions() {
+    diff <("$room/static/popsample" formula --key "$key" --count 5 < "$formulas/chain.cnf" | grep '^v ') \
+        <(cd "$room" && "${@:2}" 5 < "$formulas/chain.cnf") || fail "the example in $1 draws other solutions"
+    diff <("$room/static/popsample" rounds --key "$key" < "$formulas/options.cnf" | grep '^v ') \
+        <(cd "$room" && "${@:2}" 1 < "$formulas/options.cnf") || fail "the example in $1 draws another solution by rounds"
+    echo "solutions in $1: ok"
+}
+
 check_callers() {
-    local callers=../examples/in_process roads key name
+    local callers=../examples/in_process formulas roads key name
     roads=$(realpath ../examples/roads.col)
+    formulas=$(realpath ../examples)
     key=$(sed -n 's/^key.*"\(.*\)"$/\1/p' "$callers/tree.jl")
     for name in tree array_tree; do
         link_program "$room/$name" -std=c99 "$callers/$name.c" "$libraries/libpopsample.a"
         draws_a_tree C "$room/$name" "$key"
     done
     link_program "$room/array_solutions" -std=c99 "$callers/array_solutions.c" "$libraries/libpopsample.a"
-    diff <("$room/static/popsample" formula --key "$key" --count 5 < ../examples/chain.cnf | grep '^v ') \
-        <("$room/array_solutions" "$key" 5 < ../examples/chain.cnf) || fail "the example in C draws other solutions"
+    draws_solutions C "$room/array_solutions" "$key"
     # R and Julia run the libraries of this machine.
     [ -z "$cross" ] || return 0
     if command -v R > /dev/null; then
         # The linker's object goes beside its source.
         cp "$callers"/*_r.c "$callers"/*.R "$room"
-        for name in popsample_r popsample_trees_r; do
+        for name in popsample_r popsample_trees_r popsample_solutions_r; do
             PKG_CPPFLAGS=-I$PWD/include PKG_LIBS=$libraries/libpopsample.a \
                 R CMD SHLIB --output="$room/$name.so" "$room/$name.c" > "$room/log" 2>&1 || fail "$(cat "$room/log")"
         done
         draws_a_tree R Rscript "$room/tree.R" "$roads"
         draws_a_tree R Rscript "$room/array_tree.R" "$roads"
+        draws_solutions R Rscript "$room/array_solutions.R"
     fi
     if command -v julia > /dev/null; then
         for name in tree array_tree; do
             POPSAMPLE_LIBRARY=$libraries/libpopsample.so draws_a_tree Julia julia "$PWD/$callers/$name.jl" "$roads"
         done
+        POPSAMPLE_LIBRARY=$libraries/libpopsample.so draws_solutions Julia julia "$PWD/$callers/array_solutions.jl"
     fi
 }
 

@@ -10,7 +10,7 @@
 pub mod OneSubject
 mod RefusedStacks
 mod RefusedSubjects
-mod RefusedOr
+pub mod RefusedOr
 mod OneRefusal
 mod ToldLogs
 mod OneEnd
@@ -60,7 +60,7 @@ mod ExactAnswers
 pub mod EverySample
 -- So it is of rounds, for every formula. RoundAnswers: another assignment is answered in the place of the printed one.
 -- RoundOutputs: what is printed.
-mod RoundAnswers
+pub mod RoundAnswers
 mod RoundOutputs
 -- KeyAnswers: the law of keys, said of answers. StoppedAnswers: and of runs that are given up.
 -- RetriedAnswers: and of the first sample of several calls.

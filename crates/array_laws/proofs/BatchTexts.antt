@@ -79,7 +79,7 @@ batch_texts facts i count ends extremal are =
     }
 
 -- what was found is told by the lines of the values
-found_same : (facts : Facts) (family : Family) (values lines : List ℕ) (stuck : List Event)
+pub found_same : (facts : Facts) (family : Family) (values lines : List ℕ) (stuck : List Event)
     → sample_lines facts values ≡ lines → found_lines facts family values stuck ≡ found_of facts family lines stuck
 found_same facts family values lines [] same = ap (λ (l : List ℕ). line (codes "s SAMPLE") ++ l) same
 found_same facts family values lines (e ∷ stuck) same = refl

@@ -1,6 +1,5 @@
 -- The text of an orientation's sample by the numbers of its row: the value of each edge, and its cursor.
-use Rattle.std.proofs.Common.{◌≡◌, ℕ, ◌+◌, ◌-◌, ◌*◌, ◌<◌, List, [], length, get_or, sym, ap, subst, ◌∙◌, arith}
-use Rattle.std.proofs.lemmas.List.FromFn.{fill_by_all}
+use Rattle.std.proofs.Common.{◌≡◌, ℕ, ◌+◌, ◌*◌, ◌<◌, List, [], length, get_or, sym, ap, subst}
 use Rattle.pop_model.specs.Stacks.{IsKeyed}
 use Rattle.pop_model.specs.Instances.{Instance}
 use Rattle.graph_read.specs.Graphs.{GraphOf}
@@ -12,6 +11,7 @@ use Rattle.array_calls.proofs.ValueRows.{have_values}
 use Rattle.array_laws.specs.PrintedRows.{IsTextOfOrientation, numbers_from, row_edge, row_edges}
 use Rattle.array_laws.proofs.BatchTexts.{end_told, text_at}
 use Rattle.array_laws.proofs.Numbered.{lines_alike}
+use Rattle.array_laws.proofs.RowNumbers.{of_place, row_list}
 
 module _ (g : GraphOf) (key : List ℕ) (height : ℕ) (i : Instance) (sinks : AreSinksUnder key height g i) (first j : ℕ)
     (directions useds counts : List ℕ) (row : IsValueRow i (length g.edges) first [] j directions useds counts) where
@@ -28,24 +28,16 @@ module _ (g : GraphOf) (key : List ℕ) (height : ℕ) (i : Instance) (sinks : A
   pairs : AreOfPairs n i.stacks
   pairs = record { keyed = subst (λ (k : Instance). IsKeyed k.stacks.origin) (sym sinks.is) tt; is = ap (λ (k : Instance). k.stacks.weights) sinks.is }
 
-  -- a number of the row is that of its place
-  of_place : (numbers row : List ℕ) → ((k : ℕ) → k < n → get_or row (at + k) 0 ≡ get_or numbers (k + 1 - 1) 0) → (k : ℕ)
-      → k < n → get_or numbers k 0 ≡ get_or row (at + k) 0
-  of_place numbers row has k less =
-      let back : k ≡ k + 1 - 1 = omega arith in
-      ap (λ (m : ℕ). get_or numbers m 0) back ∙ sym (has k less)
-
   -- the lines of the edges
   lines : orientation_lines g end.values ≡ row_edges g at directions
   lines =
       lines_alike (edge_line end.values) (row_edge at directions) g.edges (λ v e less.
-      ap (λ (x : ℕ). oriented_line e (v + 1) x) (of_place end.values directions row.has_values v less))
+      ap (λ (x : ℕ). oriented_line e (v + 1) x) (of_place n at end.values directions row.has_values v less))
 
   -- and the cursors
   used_are : 0 < length useds → end.cursors ≡ numbers_from at n useds
   used_are some =
-      fill_by_all (λ k. get_or useds (at + k) 0) end.cursors n 0 (have_values i n (first + j) end pairs row.of_sample.over).0
-      (of_place end.cursors useds (row.has_used some))
+      row_list n at end.cursors useds (have_values i n (first + j) end pairs row.of_sample.over).0 (row.has_used some)
 
   -- the text of the sample
   pub orientation_told : 0 < length useds → (text : List ℕ) → text ≡ text_at (OrientFacts g) i (first + j) end

@@ -34,13 +34,13 @@ use Rattle.array_laws.proofs.OrientationTexts.{orientation_told}
 use Rattle.array_laws.proofs.TreeTexts.{tree_told}
 
 -- an output that has the texts of the samples of what was made of a text
-record AreTextsOf (job : Job) (key text : List ℕ) (height count : ℕ) (out : List ℕ) : Type 0 where
-  subject : Subject
-  is : IsSubjectOf job.command (wanted_by job) text subject
-  texts : AreSampleTexts subject.facts (instance_over (Keyed (key_of key) 0 height) subject) count out
+pub record AreTextsOf (job : Job) (key text : List ℕ) (height count : ℕ) (out : List ℕ) : Type 0 where
+  pub subject : Subject
+  pub is : IsSubjectOf job.command (wanted_by job) text subject
+  pub texts : AreSampleTexts subject.facts (instance_over (Keyed (key_of key) 0 height) subject) count out
 
 -- so is an answer that is no refusal
-answer_texts : (words : List (List ℕ)) (ws : List Watcher) (text out key : List ℕ) (height count status : ℕ)
+pub answer_texts : (words : List (List ℕ)) (ws : List Watcher) (text out key : List ℕ) (height count status : ℕ)
     (command : Command) (asked : AskForBatch words command key height count) → Contains quiet asked.job.command
     → IsAnswer words ws text status out → (status ≡ 0) ⊎ (status ≡ 1)
     → AreTextsOf asked.job key text height count out

@@ -1,2 +1,3 @@
 pub mod BatchTexts
 pub mod PrintedRows
+pub mod PrintedAssignments

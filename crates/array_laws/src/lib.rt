@@ -4,4 +4,6 @@
 
 mod laws;
 
-pub use laws::{orientation_rows_printed, tree_rows_printed};
+pub use laws::{
+    assignment_rows_printed, orientation_rows_printed, round_row_printed, tree_rows_printed,
+};
