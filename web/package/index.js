@@ -8,10 +8,9 @@
 // README.md has the calls, index.d.ts their types.
 import { bytesOf, keyOf, randomKey, seedKey } from "./keys.js";
 import { answerOf, compiled, labelOf, MEMORY, ownModule } from "./module.js";
-import { valuesOf } from "./outputs.js";
 import { FROM_ZERO, RefusalError, refusalOf } from "./refusal_error.js";
-import { orientationOf, treeOf } from "./samples.js";
-import { formulaText, graphOf, graphText, heightOf, rootOf } from "./texts.js";
+import { orientationOf, solutionOf, treeOf } from "./samples.js";
+import { formulaOf, formulaText, graphOf, graphText, heightOf, rootOf } from "./texts.js";
 
 export { RefusalError, randomKey, refusalOf, seedKey };
 
@@ -57,36 +56,36 @@ export class Popsample {
 
     /** A random solution of a formula, by rounds; each solution is as likely as any other. */
     solution(clauses, options = {}) {
-        const text = formulaText(clauses, options);
-        const key = keyOf(options);
-        const words = wordsOf("rounds", { key, height: heightOf(options) });
-        const answer = this.run(words, text);
-        const refusal = refusalOf(words, text, answer, FROM_ZERO);
-        if (refusal !== null) throw refusal;
-        return { key, ...valuesOf(answer.output) };
+        const formula = formulaOf(clauses, options);
+        const wanted = { key: keyOf(options), height: heightOf(options) };
+        return this.#sampleOf("rounds", formula, solutionOf, wanted);
     }
 
-    // A sample of a graph, by a call that takes and fills arrays.
-    #sampleOf(command, graph, call, wanted) {
-        const { status, sample } = isTooLarge(graph)
+    // A sample of a graph or a formula, by a call that takes and fills arrays.
+    #sampleOf(command, input, call, wanted) {
+        const { status, sample } = isTooLarge(input)
             ? { status: LIMIT }
-            : call(this.#module, graph, { ...wanted, key: bytesOf(wanted.key) });
+            : call(this.#module, input, { ...wanted, key: bytesOf(wanted.key) });
         if (status === 0) return { key: wanted.key, ...sample };
-        throw this.#refusalOf(command, graph, wanted, status);
+        throw this.#refusalOf(command, input, wanted, status);
     }
 
-    // The error for a call with arrays: that for the text of the same graph, which has the same sample.
-    #refusalOf(command, graph, wanted, status) {
-        const [words, text] = [wordsOf(command, wanted), graphText(graph)];
+    // The error for a call with arrays: that for the same input as a text.
+    #refusalOf(command, input, wanted, status) {
+        const [words, text] = [wordsOf(command, wanted), textOf(input)];
         const answer = status === MEMORY ? { status, output: "" } : this.run(words, text);
         return refusalOf(words, text, answer, FROM_ZERO);
     }
 }
 
-// Whether a graph is beyond the limits. No rows are made for it.
-function isTooLarge({ vertices, ends }) {
-    return vertices > 2 ** 22 || ends.length > 2 ** 24;
+// Whether a graph or a formula is beyond the limits. No rows are made for it.
+function isTooLarge({ vertices, ends, variables, literals }) {
+    return literals === undefined
+        ? vertices > 2 ** 22 || ends.length > 2 ** 24
+        : variables > 2 ** 22 || literals.length > 2 ** 25 + 2 ** 22;
 }
+
+const textOf = (input) => (input.literals === undefined ? graphText(input) : formulaText(input));
 
 // The arguments of the program for a sample.
 function wordsOf(command, { key, height, root }) {

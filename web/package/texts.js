@@ -57,12 +57,13 @@ export function graphText({ vertices, ends, weights }) {
 }
 
 /**
- * The text of a formula, of clauses of literals: `2` is that variable 2 is true, `-2` that it is false.
+ * A formula of an array, of clauses of literals: `2` is that variable 2 is true, `-2` that it is
+ * false. Without `variables` it has those up to the greatest one of a literal.
  * @param {Iterable<Iterable<number>>} clauses
  * @param {{ variables?: number }} options
- * @returns {string}
+ * @returns {import("./samples.js").Formula}
  */
-export function formulaText(clauses, { variables }) {
+export function formulaOf(clauses, { variables }) {
     const rows = Array.from(clauses, (clause) => Array.from(clause));
     let most = 0;
     for (const literal of rows.flat()) {
@@ -71,8 +72,21 @@ export function formulaText(clauses, { variables }) {
     }
     const count = variables ?? most;
     checkInteger("variables", count, 0, MOST);
-    const lines = rows.map((row) => `${[...row, 0].join(" ")}\n`);
-    return `p cnf ${count} ${rows.length}\n${lines.join("")}`;
+    return { variables: count, literals: Int32Array.from(rows.flatMap((row) => [...row, 0])) };
+}
+
+/**
+ * The text of a formula.
+ * @param {import("./samples.js").Formula} formula
+ */
+export function formulaText({ variables, literals }) {
+    const lines = [];
+    for (let at = 0; at < literals.length; ) {
+        const end = literals.indexOf(0, at) + 1;
+        lines.push(`${literals.subarray(at, end).join(" ")}\n`);
+        at = end;
+    }
+    return `p cnf ${variables} ${lines.length}\n${lines.join("")}`;
 }
 
 /** The number of entries of each stack. */

@@ -180,7 +180,7 @@ class ModesTest(PageTest):
         for module in self.modules:
             self.driver.get(f"{self.base}cases.html?module={module}")
             self.wait(lambda: "cases:" in self.text("said"))
-            wanted = r"^arrays: 400 agree, 0 differ\ncases: [1-9][0-9]* agree, 0 differ$"
+            wanted = r"^arrays: 600 agree, 0 differ\ncases: [1-9][0-9]* agree, 0 differ$"
             self.assertRegex(self.text("said"), wanted, module)
 
     def test_a_first_sample_comes_by_itself(self) -> None:

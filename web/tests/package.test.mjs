@@ -114,6 +114,11 @@ for (const file of ["popsample.wasm", "popsample32.wasm"]) {
         assert.equal(tree.pops, 2);
     });
 
+    on("the limits of formulas are those of texts", () => {
+        assert.throws(() => popsample.solution([], { variables: 2 ** 22 + 1 }), { code: "LIMIT" });
+        assert.throws(() => popsample.solution([[3]], { variables: 2 }), { code: "MALFORMED" });
+    });
+
     on("samples in arrays are those of texts", () => {
         const { differ, told } = compareArrays(popsample, 200);
         assert.equal(differ, 0, told);
